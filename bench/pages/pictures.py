@@ -29,6 +29,7 @@ LAYERS = [
     ]),
     ("words", CODE, [
         ("float_numerals", "floats in decimal"),
+        ("finite_numerals", "one for each"),
         ("naga_keywords", "sets of words"),
         ("wgsl_words", "words for values"),
     ]),
@@ -77,6 +78,7 @@ LAYERS = [
     ("answers", CODE, [
         ("module_positions", "where it is"),
         ("layout_texts", "layouts as text"),
+        ("name_maps", "names as JSON"),
         ("module_answers", "texts, refusals"),
         ("sample_modules", "modules by name"),
     ]),

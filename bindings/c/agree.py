@@ -149,12 +149,13 @@ def rust_numbers_differ(wanted):
 
 
 def statuses_differ(wanted):
-    """Where the page in web/ or the library's test names another status, by its index in a list."""
+    """Where the page in web/, the library's test or Python's module gives another number to a status."""
     left_out = {"VERSION", *LIMITS, *flags_of_calls()}
     statuses = {name: number for name, number in wanted.items() if name not in left_out}
     return [
         *differences("yorwethul.h", statuses, "web/index.html", numbered(statuses_of_page())),
         *differences("yorwethul.h", statuses, "bindings/tests/test.py", numbered(statuses_of_test())),
+        *differences("yorwethul.h", statuses, "bindings/python/yorwethul.py", statuses_of_python()),
     ]
 
 
@@ -172,11 +173,11 @@ def statuses_of_test():
 
 
 def flags_differ(wanted):
-    """Where the page, the Python program to copy or the library's test gives another number to a flag."""
+    """Where the page, Python's module or the library's test gives another number to a flag."""
     flags = {name: number for name, number in wanted.items() if name in flags_of_calls()}
     told = {
         "web/index.html": asked_flags("web/index.html", r"const bitOf = {(.*)};"),
-        "bindings/python/first.py": asked_flags("bindings/python/first.py", r"FLAGS = {(.*)}"),
+        "bindings/python/yorwethul.py": flags_of_python(),
         "bindings/tests/test.py": flags_of_test(),
     }
     return [fault for path, numbers in told.items() for fault in differences("yorwethul.h", flags, path, numbers)]
@@ -186,6 +187,16 @@ def asked_flags(path, table):
     """The flags in a table of words and numbers. A word by which none is to be asked for stands for itself."""
     told = re.findall(r'"?(\w+)"?: (\d+)', re.search(table, source_of(path))[1])
     return {ASKED_BY.get(word, word): int(number) for word, number in told}
+
+
+def flags_of_python():
+    told = re.search(r"class Flags.*?\n\n(.*?)\n    DEFAULT", source_of("bindings/python/yorwethul.py"), re.DOTALL)[1]
+    return {name: int(number) for name, number in re.findall(r"(\w+) = (\d+)", told)}
+
+
+def statuses_of_python():
+    told = re.search(r"class Status.*?\n\n(.*?)\n\n", source_of("bindings/python/yorwethul.py"), re.DOTALL)[1]
+    return {name: int(number) for name, number in re.findall(r"(\w+) = (\d+)", told)}
 
 
 def flags_of_test():

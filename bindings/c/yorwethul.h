@@ -21,7 +21,7 @@ extern "C" {
 
 /* what a call gives */
 enum yorwethul_status {
-    YORWETHUL_DONE = 0,          /* out has what was asked for: WGSL, layouts, or nothing of yorwethul_check */
+    YORWETHUL_DONE = 0,          /* out has what was asked for: WGSL, layouts, names, or nothing of yorwethul_check */
     YORWETHUL_REFUSED = 1,       /* it is accepted, and refused, by the construct, its position and the label of
                                     the function there, quoted as Rust does:
                                     float literal: module.functions[0].expressions[3], in statement 1, in "half" */
@@ -40,11 +40,12 @@ enum yorwethul_status {
 /* flags */
 #define YORWETHUL_EXPLICIT_TYPES 1u /* each `let` states its type */
 #define YORWETHUL_PORTABLE 2u       /* the text has what standard compilers ask for, as `enable subgroups;` */
-#define YORWETHUL_DECIMAL_FLOATS 4u /* floats are written, by the digits that Rust gives them; else F32, F64 and F16 are refused */
+#define YORWETHUL_DECIMAL_FLOATS 4u /* floats are written, by the digits that Rust gives them, and names may end in digits, as
+                                     * pass2; else F32, F64 and F16 are refused, and such a name is pass2_ */
 
 /* Each call gives a status. *needed is how many bytes its text has: what was asked for, or why it is not there, in
  * UTF-8, with no 0 after it. If out_length is enough for it, the text stands at the front of out. Else out is as it
- * was: call again with *needed bytes. No pointer may be null, not even with a length of 0, and out and needed lie
+ * was: call again with *needed bytes. json and out may be null with a length of 0, needed may not. out and needed lie
  * over nothing else. */
 uint32_t yorwethul_write(const uint8_t *json, size_t json_length, uint32_t flags,
                          uint8_t *out, size_t out_length, size_t *needed);
@@ -53,8 +54,21 @@ uint32_t yorwethul_check(const uint8_t *json, size_t json_length,
 uint32_t yorwethul_layout(const uint8_t *json, size_t json_length,
                           uint8_t *out, size_t out_length, size_t *needed);
 
+/* Which identifier of the text that the module has under these flags stands for which item of it: one line of JSON,
+ * {"constants": [..], "entry_points": [..], "functions": [..], "globals": [..], "overrides": [..], "structs": [..]},
+ * each item with its "label" in the module, or null, and its "identifier" in the text. */
+uint32_t yorwethul_names(const uint8_t *json, size_t json_length, uint32_t flags,
+                         uint8_t *out, size_t out_length, size_t *needed);
+
 /* a million times the first number, a thousand times the second, and the third */
 uint32_t yorwethul_version(void);
+
+/* A status in words, as "not accepted", or "unknown status". The text is nobody's to free. */
+const char *yorwethul_status_name(uint32_t status);
+
+/* the limits of the library, where that is another than the header's */
+size_t yorwethul_longest_text(void);
+size_t yorwethul_deepest_nesting(void);
 
 #ifdef __cplusplus
 }

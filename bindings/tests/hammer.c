@@ -49,9 +49,9 @@ void __wrap_free(void *block) {
 
 /* ---- calls */
 
-enum call { WRITE, WRITE_EXPLICIT, WRITE_ALL_FLAGS, CHECK, LAYOUT, CALLS };
+enum call { WRITE, WRITE_EXPLICIT, WRITE_ALL_FLAGS, CHECK, LAYOUT, NAMES, CALLS };
 static const char *const names[CALLS] = {"write", "write with types", "write with all flags",
-                                         "check", "layout"};
+                                         "check", "layout", "names"};
 static const uint32_t all_flags =
     YORWETHUL_EXPLICIT_TYPES | YORWETHUL_PORTABLE | YORWETHUL_DECIMAL_FLOATS;
 
@@ -73,7 +73,8 @@ static struct answer call(enum call which, const uint8_t *json, size_t length, u
         it.status = yorwethul_write(json, length, all_flags, out, room, &it.needed);
         break;
     case CHECK: it.status = yorwethul_check(json, length, out, room, &it.needed); break;
-    default: it.status = yorwethul_layout(json, length, out, room, &it.needed); break;
+    case LAYOUT: it.status = yorwethul_layout(json, length, out, room, &it.needed); break;
+    default: it.status = yorwethul_names(json, length, all_flags, out, room, &it.needed); break;
     }
     is_counted = 0;
     return it;

@@ -43,4 +43,15 @@ uint32_t yorwethul_layout(const uint8_t *json, size_t json_length, uint8_t *out,
     return answer(json, json_length, 0, out, out_length, needed);
 }
 
+uint32_t yorwethul_names(const uint8_t *json, size_t json_length, uint32_t flags, uint8_t *out,
+                         size_t out_length, size_t *needed) {
+    return answer(json, json_length, flags, out, out_length, needed);
+}
+
 uint32_t yorwethul_version(void) { return YORWETHUL_VERSION; }
+
+const char *yorwethul_status_name(uint32_t status) { return status ? "stub" : "done"; }
+
+size_t yorwethul_longest_text(void) { return YORWETHUL_LONGEST_TEXT; }
+
+size_t yorwethul_deepest_nesting(void) { return YORWETHUL_DEEPEST_NESTING; }

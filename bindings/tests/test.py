@@ -26,7 +26,9 @@ from pathlib import Path
 HERE = Path(__file__).resolve().parent
 BINDINGS = HERE.parent
 TOP = BINDINGS.parent
-sys.path.append(str(TOP / "crates/yorwethul/nested_modules"))
+sys.path += [str(TOP / "crates/yorwethul/nested_modules"), str(BINDINGS / "python")]
+sys.dont_write_bytecode = True
+import yorwethul  # noqa: E402
 from modules import KINDS, doubled, levels, nested  # noqa: E402
 
 CRATES = TOP / "crates"
@@ -55,6 +57,32 @@ STRUCT = (b'{"module":{"types":[{"inner":{"Scalar":{"kind":"Uint","width":4}}},'
           b'{"name":"One","inner":{"Struct":{"span":4,"members":[{"name":"a","ty":0,"offset":0}]}}}]},"info":{}}')
 STRUCT_LAYOUT = "struct One: align 4, size 4\n    a: u32, offset 0, align 4, size 4\n"
 DOUBLE_TEXT = "fn double(x: i32) -> i32 {\n    return (x + x);\n}\n\n"
+DOUBLE_NAMES = ('{"constants":[],"entry_points":[],"functions":[{"handle":0,"identifier":"double","label":"double"}],'
+                '"globals":[],"overrides":[],"structs":[]}')
+# One item of each kind, with labels that are no identifiers, and one that JSON escapes.
+NAMED = json.dumps({
+    "types": [
+        {"inner": {"Scalar": {"kind": "Uint", "width": 4}}},
+        {"name": "struct", "inner": {"Struct": {"span": 4, "members": [{"name": "a-b", "ty": 0, "offset": 0}]}}},
+    ],
+    "constants": [{"name": "N", "ty": 0, "init": 0}, {"ty": 0, "init": 0}],
+    "overrides": [{"name": "fn", "id": 3, "ty": 0, "init": None}],
+    "global_variables": [{
+        "name": "a\"b\n", "space": "Uniform", "binding": {"group": 1, "binding": 2}, "ty": 1, "init": None}, {
+        "name": None, "space": "Private", "binding": None, "ty": 0, "init": None}],
+    "global_expressions": [{"Literal": {"U32": 1}}],
+    "functions": [{"name": "fn"}],
+    "entry_points": [{"name": "main", "stage": "Compute", "workgroup_size": [1, 1, 1], "function": {}}],
+}).encode()
+NAMED_NAMES = (
+    '{"constants":[{"handle":0,"identifier":"N","label":"N"}],'
+    '"entry_points":[{"identifier":"main","index":0,"label":"main","stage":"compute"}],'
+    '"functions":[{"handle":0,"identifier":"fn_","label":"fn"}],'
+    '"globals":[{"address_space":"uniform","binding":2,"group":1,"handle":0,"identifier":"a_u0022_b_u000a","label":"a\\"b\\n"},'
+    '{"address_space":"private","binding":null,"group":null,"handle":1,"identifier":"global","label":null}],'
+    '"overrides":[{"handle":0,"id":3,"identifier":"fn_1","label":"fn"}],'
+    '"structs":[{"handle":1,"identifier":"struct_","label":"struct","members":[{"identifier":"a_u002d_b","index":0,"label":"a-b"}]}]}'
+)
 OWN_OPERAND = 'module.functions[0].expressions[1], in "double": '
 FLOAT_LITERAL = "float literal: module.functions[0].expressions[0], in statement 0, in "
 HALF = FLOAT_LITERAL + '"half"'
@@ -94,6 +122,15 @@ CALLS = [
     ("check", [], "its_own_operand", NOT_ACCEPTED, OWN_OPERAND),
     ("layout", [], STRUCT, DONE, STRUCT_LAYOUT),
     ("layout", [], b'{"info":{}}', NO_MODULE, "module: missing"),
+    ("names", [0], "double", DONE, DOUBLE_NAMES),
+    ("names", [ALL_FLAGS], "double", DONE, DOUBLE_NAMES),
+    ("names", [ALL_FLAGS + 1], "double", UNKNOWN_FLAG, "a bit is set that no flag has"),
+    # also where there is no text
+    ("names", [0], "float_literal", DONE, '{"constants":[],"entry_points":[],"functions":[{"handle":0,"identifier":"half","label":"half"}],'),
+    ("names", [0], "its_own_operand", NOT_ACCEPTED, OWN_OPERAND),
+    ("names", [0], UNTYPED, NOT_ACCEPTED, OWN_OPERAND.removeprefix("module.") + "it has no type"),
+    ("names", [0], b'{"info":{}}', NO_MODULE, "module: missing"),
+    ("names", [0], NAMED, DONE, NAMED_NAMES),
 ]
 
 # What `hammer` is told: so many calls, on so many threads, so many lengths and changes of each file.
@@ -161,16 +198,16 @@ def test_header(room):
         if is_there(compiler):
             language = standard[:-2]
             run(compiler, f"-x{language}", f"-std={standard}", *WARNINGS, "-Werror", "-fsyntax-only", BINDINGS / "c/yorwethul.h")
-    run("cc", *WARNINGS, "-std=c11", "-c", BINDINGS / "c/heap.c", "-o", room / "heap.o")
+    for file in ("heap", "calls"):
+        run("cc", *WARNINGS, "-std=c11", "-c", BINDINGS / f"c/{file}.c", "-o", room / f"{file}.o")
 
 
 def test_stubs(room):
-    """The programs to copy, by the stub: a text, one that is longer than the first guess, an error, each flag, and wrong calls."""
+    """The programs to copy, by the stub: a text, one longer than the first guess, an error, each flag, and wrong calls."""
     stub = make_stub(room)
     programs = [[compile_c(room, stub / "libyorwethul.a")]]
     if is_there("c++"):
         programs.append([compile_cpp(room, stub / "libyorwethul.a")])
-    programs.append([sys.executable, BINDINGS / "python/first.py", stub / "libyorwethul.so"])
     for program in programs:
         for order, text, status in (("0 1 abc", "abc", 0), ("0 200 abc", "abc" * 200, 0), ("0 0 ", "", 0), ("2 1 wrong", "", 1), ("", "", 1)):
             told = run(*program, write(room / "order", order), wanted=status)
@@ -183,9 +220,40 @@ def test_stubs(room):
             must(run(*program, *words, wanted=2) == "", f"{program} gives a text by {words}")
         with open("/dev/full", "w") as full:
             status = subprocess.run([*program, order], stdout=full, stderr=subprocess.DEVNULL).returncode
-        # Python ends by itself then, with a status of its own
-        must(status == 2 or (status and program[0] == sys.executable), f"{program}: status {status} on a full disk")
-    run(sys.executable, BINDINGS / "python/first.py", wanted=2)
+        must(status == 2, f"{program}: status {status} on a full disk")
+
+
+def test_python(room):
+    """The module for Python, by the stub: its calls, its error, and what it does as a program."""
+    stub = make_stub(room) / "libyorwethul.so"
+    library = yorwethul.Library(stub)
+    for flags in range(ALL_FLAGS + 1):
+        must(library.write("0 1 abc", flags) == "abc" * (1 + flags), f"the flags {flags} are not asked for")
+    must(library.write(b"0 200 abc") == "abc" * (200 + yorwethul.Flags.DEFAULT), "a long text is not whole")
+    must(library.layout("0 2 x") == "xx" and library.check("0 1 x") is None, "another call is made")
+    must(library.names("0 1 1", PORTABLE) == 111 and library.names("0 1 1") == 1_111_111, "names are asked for by other flags")
+    for order, status, shown in (("2 1 wrong", NOT_ACCEPTED, "not accepted: wrong"), ("5 0 ", OUT_OF_MEMORY, "out of memory"), ("9 1 odd", 9, "status 9: odd")):
+        try:
+            told = library.layout(order)
+        except yorwethul.Error as error:
+            told = (error.status, str(error))
+        must(told == (status, shown), f"{told!r} of {order!r}")
+    program = [sys.executable, "-m", "yorwethul"]
+    environment = {**os.environ, "PYTHONPATH": str(BINDINGS / "python"), "YORWETHUL_LIBRARY": str(stub), "PYTHONDONTWRITEBYTECODE": "1"}
+    order = write(room / "order", "0 1 abc")
+    for words, flags in (([], 6), (["--plain"], 0), (["--explicit-types"], 7), (["--plain", "--explicit-types"], 1)):
+        told = run(*program, *words, order, env=environment)
+        must(told == "abc" * (1 + flags), f"python -m yorwethul {words}: {told!r}")
+    must(run(*program, "--check", order, env=environment) == "", "--check prints a text")
+    named = write(room / "named", "0 1 1")
+    must(run(*program, "--names", "--plain", named, env=environment) == "1\n", "--names --plain prints something else")
+    must(run(*program, "-", env=environment, input="0 1 a", wanted=0) == "a" * 7, "the standard input is not read")
+    run(*program, write(room / "wrong", "2 1 wrong"), env=environment, wanted=1)
+    for words in ([], ["--library", room / "nothing.so", order], [room / "missing"], [room], ["--odd", order], ["--check", "--layout", order], ["--names", "--layout", order]):
+        run(*program, *words, env=environment, wanted=2)
+    with open("/dev/full", "w") as full:
+        status = subprocess.run([*program, order], stdout=full, stderr=subprocess.DEVNULL, env=environment).returncode
+    must(status == 2, f"python -m yorwethul: status {status} on a full disk")
 
 
 def make_stub(room):
@@ -274,18 +342,18 @@ def test_names(folder, _):
     """Only the calls can be seen in the archive."""
     if not find("nm"):
         raise Skipped("no nm")
-    wanted = {"yorwethul_write", "yorwethul_check", "yorwethul_layout", "yorwethul_version"}
+    header = (folder / "yorwethul.h").read_text()
+    wanted = set(re.findall(r"(?m)^\w[^(/]*?(yorwethul_\w+)\(", header))
     told = run("nm", "-g", "--defined-only", folder / "libyorwethul.a")
     seen = {line.split()[-1] for line in lines_of(told) if " " in line}
     must(seen == wanted, f"the archive shows {sorted(seen ^ wanted)}")
 
 
 def test_programs(folder, room):
-    """The programs to copy print of the examples what the program yorwethul prints, and with --plain."""
+    """The programs to copy, and Python's, print of the examples what the program yorwethul prints, and with --plain."""
     programs = [[compile_c(room, folder / "libyorwethul.a")]]
     if is_there("c++"):
         programs.append([compile_cpp(room, folder / "libyorwethul.a")])
-    programs.append([sys.executable, BINDINGS / "python/first.py", folder / "libyorwethul.so"])
     if is_there("cmake"):
         run("cmake", "-S", BINDINGS / "c", "-B", room / "cmake", f"-Dyorwethul_DIR={folder}")
         run("cmake", "--build", room / "cmake")
@@ -299,6 +367,12 @@ def test_programs(folder, room):
             for program in programs:
                 told = run(*program, example, *words, wanted=status)
                 must(told == text, f"{program} with the words {words}: another text of {example.name}")
+            python = [sys.executable, BINDINGS / "python/yorwethul.py", "--library", folder / "libyorwethul.so"]
+            told = run(*python, example, *(["--plain"] if is_plain else []), wanted=status)
+            must(told == text, f"python, plain {is_plain}: another text of {example.name}")
+            names = Library(folder / "libyorwethul.so").call("names", example.read_bytes(), 0 if is_plain else PORTABLE | DECIMAL_FLOATS)
+            told = json.loads(run(*python, example, "--names", *(["--plain"] if is_plain else [])))
+            must(names[0] == DONE and told == json.loads(names[1]), f"python, plain {is_plain}: other names of {example.name}")
 
 
 def printed_examples(is_plain):
@@ -323,6 +397,23 @@ def test_calls(folder, _):
         must(told == (DONE, text) and library.needed == len(DOUBLE_TEXT), f"{told} with room for {room} bytes")
     version = library.calls.yorwethul_version()
     must(version == 1_000, f"version {version}")
+    test_own_calls(library.calls)
+
+
+def test_own_calls(calls):
+    """What is not proved but C: null pointers with a length of 0, names of statuses, limits."""
+    needed = ctypes.c_size_t(77)
+    for name, flags in (("write", [0]), ("check", []), ("layout", [])):
+        call = getattr(calls, f"yorwethul_{name}")
+        told = call(None, ctypes.c_size_t(0), *map(ctypes.c_uint32, flags), None, ctypes.c_size_t(0), ctypes.byref(needed))
+        must((told, needed.value) == (NO_MODULE, len("no JSON at line 1, column 0")), f"{name} of nothing: {told}, {needed.value}")
+    calls.yorwethul_status_name.restype = ctypes.c_char_p
+    names = [calls.yorwethul_status_name(ctypes.c_uint32(status)).decode() for status in range(len(yorwethul.Status) + 1)]
+    must(names == [*(it.name.lower().replace("_", " ") for it in yorwethul.Status), "unknown status"], f"names of statuses: {names}")
+    for name, number in (("longest_text", 67_108_864), ("deepest_nesting", DEEPEST_NESTING)):
+        limit = getattr(calls, f"yorwethul_{name}")
+        limit.restype = ctypes.c_size_t
+        must(limit() == number, f"{name}: {limit()}")
 
 
 def test_lines(folder, _):
@@ -362,6 +453,38 @@ def test_alone(folder, _):
         for alone in ({"module": module}, {"module": module, "info": None}, module):
             told = library.call("write", json.dumps(alone).encode(), ALL_FLAGS)
             must(told == wanted, f"{told} of {example.name} without its info, with it {wanted}")
+
+
+# What a text declares: each kind of item with the words in front of its identifier, at the front of a line.
+DECLARED = {
+    "functions": r"^fn (\w+)\(",
+    "structs": r"^struct (\w+) \{",
+    "globals": r"^(?:@\S+ )*var(?:<[^>]*>)? (\w+):",
+    "constants": r"^const (\w+):",
+    "overrides": r"^(?:@\S+ )*override (\w+):",
+}
+
+
+def test_identifiers(folder, _):
+    """The names of a module are those that its text declares, of the examples and of all cases of wgsl_cases, and no others."""
+    library = Library(folder / "libyorwethul.so")
+    count = 0
+    for data in (*(example.read_bytes() for example in EXAMPLES), *(CRATES / "wgsl_cases/stdin").read_bytes().splitlines()):
+        for flags in (0, ALL_FLAGS):
+            status, text = library.call("write", data, flags)
+            if status != DONE:
+                continue
+            names = json.loads(library.call("names", data, flags)[1])
+            told = {kind: sorted(item["identifier"] for item in names[kind]) for kind in DECLARED}
+            told["functions"] = sorted(told["functions"] + [item["identifier"] for item in names["entry_points"]])
+            found = {kind: sorted(re.findall(declared, text, re.MULTILINE)) for kind, declared in DECLARED.items()}
+            must(told == found, f"{told} of a text that declares {found}: {text[:300]}")
+            for item in names["structs"]:
+                body = re.search(rf"^struct {item['identifier']} \{{\n(.*?)^\}}", text, re.MULTILINE | re.DOTALL)[1]
+                members = re.findall(r"^    (?:@\S+ )*(\w+):", body, re.MULTILINE)
+                must(members == [member["identifier"] for member in item["members"]], f"{item} of {body}")
+            count += 1
+    return f"{count} texts"
 
 
 def in_function(answer):
@@ -450,7 +573,7 @@ def test_memory(folder, _):
     library = Library(folder / "libyorwethul.so")
     for example in EXAMPLES:
         data = example.read_bytes()
-        for name, flags in (("write", [0]), ("write", [ALL_FLAGS]), ("layout", []), ("check", [])):
+        for name, flags in (("write", [0]), ("write", [ALL_FLAGS]), ("layout", []), ("names", [0]), ("names", [ALL_FLAGS]), ("check", [])):
             status, text = library.call(name, data, *flags)
             length = len(text.encode())
             must(library.call(name, data, *flags, room=length) == (status, text), f"{name} of {example.name} with just enough")
@@ -465,13 +588,13 @@ def test_depth(folder, _):
         (b"[" * 128, TOO_DEEP), (b'{"a":' * 500_000, TOO_DEEP), (b"[" * 127, NO_MODULE), (b'["' + b"[" * 500 + b'"', NO_MODULE),
         (b'{"module": {}, "info": {}, "x": ' + b"[" * 126 + b"]" * 126 + b"}", DONE), (b"\xff", NO_MODULE), (b"", NO_MODULE), (b"\0" * 300, NO_MODULE),
     ):
-        for name, flags in (("write", [0]), ("check", []), ("layout", [])):
+        for name, flags in (("write", [0]), ("check", []), ("layout", []), ("names", [0])):
             told = library.call(name, data, *flags)
             must(told[0] == wanted, f"{name}: {told} of {data[:40]}")
     for kind in KINDS:
         for depth in (DEEPEST_NESTING + 1, DEEPEST_NESTING + 2, 100_000):
             data = nested(kind, depth).encode()
-            for name, flags in (("write", [0]), ("check", []), ("layout", [])):
+            for name, flags in (("write", [0]), ("check", []), ("layout", []), ("names", [0])):
                 told = library.call(name, data, *flags)
                 is_deep = levels(kind, depth) > DEEPEST_NESTING
                 is_told = told[0] == TOO_DEEP and told[1].startswith("nested too deep: ")
@@ -547,6 +670,7 @@ def tests(folder, is_whole):
     yield "header, exports and bindings agree", test_agreement, [], ()
     yield "the header compiles", test_header, ["cc"], ()
     yield "programs by the stub", test_stubs, ["cc", "ar"], ()
+    yield "the module for Python by the stub", test_python, ["cc", "ar"], ()
     yield "the Rust crate by the stub", test_rust_stub, ["cc", "ar", "cargo", "rustc"], ()
     yield from ((name, test, needs, (folder,)) for name, test, needs in library_tests(is_whole))
 
@@ -558,6 +682,7 @@ def library_tests(is_whole):
     yield "the program's lines", test_lines, []
     yield "the examples without their infos", test_alone, []
     yield "the cases of wgsl_cases", test_cases, []
+    yield "identifiers of the texts", test_identifiers, []
     yield "the caller's memory", test_memory, []
     yield "depth", test_depth, []
     if is_whole:

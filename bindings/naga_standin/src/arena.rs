@@ -105,18 +105,28 @@ impl<T> fmt::Debug for Range<T> {
 #[serde(transparent)]
 pub struct Arena<T> {
     data: Vec<T>,
+    #[serde(skip)]
+    spans: Vec<Span>,
 }
 
 impl<T> Default for Arena<T> {
     fn default() -> Self {
-        Arena { data: Vec::new() }
+        Arena {
+            data: Vec::new(),
+            spans: Vec::new(),
+        }
     }
 }
 
 impl<T> Arena<T> {
-    pub fn append(&mut self, value: T, _span: Span) -> Handle<T> {
+    pub fn append(&mut self, value: T, span: Span) -> Handle<T> {
         self.data.push(value);
+        self.spans.push(span);
         Handle::new(self.data.len() - 1)
+    }
+
+    pub fn get_span(&self, handle: Handle<T>) -> Span {
+        self.spans[handle.index()]
     }
 
     pub fn iter(&self) -> impl DoubleEndedIterator<Item = (Handle<T>, &T)> + ExactSizeIterator {
@@ -149,19 +159,38 @@ impl<T> Index<Handle<T>> for Arena<T> {
 #[serde(transparent)]
 pub struct UniqueArena<T> {
     set: Vec<T>,
+    #[serde(skip)]
+    spans: Vec<Span>,
 }
 
 impl<T> Default for UniqueArena<T> {
     fn default() -> Self {
-        UniqueArena { set: Vec::new() }
+        UniqueArena {
+            set: Vec::new(),
+            spans: Vec::new(),
+        }
+    }
+}
+
+impl<T> UniqueArena<T> {
+    pub fn iter(&self) -> impl DoubleEndedIterator<Item = (Handle<T>, &T)> + ExactSizeIterator {
+        self.set
+            .iter()
+            .enumerate()
+            .map(|(index, item)| (Handle::new(index), item))
+    }
+
+    pub fn get_span(&self, handle: Handle<T>) -> Span {
+        self.spans[handle.index()]
     }
 }
 
 impl<T: Eq> UniqueArena<T> {
-    pub fn insert(&mut self, value: T, _span: Span) -> Handle<T> {
+    pub fn insert(&mut self, value: T, span: Span) -> Handle<T> {
         let found = self.set.iter().position(|item| *item == value);
         Handle::new(found.unwrap_or_else(|| {
             self.set.push(value);
+            self.spans.push(span);
             self.set.len() - 1
         }))
     }

@@ -12,11 +12,23 @@ pub use arena::{Arena, FastIndexMap, Handle, Range, UniqueArena};
 
 use serde::Serialize;
 
+/// Bytes of the source.
 #[derive(Clone, Copy, Debug, Default, PartialEq, Eq)]
-pub struct Span;
+pub struct Span {
+    start: u32,
+    end: u32,
+}
 
 impl Span {
-    pub const UNDEFINED: Span = Span;
+    pub const UNDEFINED: Span = Span { start: 0, end: 0 };
+
+    pub const fn new(start: u32, end: u32) -> Span {
+        Span { start, end }
+    }
+
+    pub fn is_defined(&self) -> bool {
+        *self != Span::UNDEFINED
+    }
 }
 
 #[derive(Clone, Copy, Debug, PartialEq, Eq, Hash, Serialize)]
@@ -160,6 +172,20 @@ pub enum Expression {
 pub enum Statement {
     Emit(Range<Expression>),
     Block(Block),
+    If {
+        condition: Handle<Expression>,
+        accept: Block,
+        reject: Block,
+    },
+    Switch {
+        selector: Handle<Expression>,
+        cases: Vec<SwitchCase>,
+    },
+    Loop {
+        body: Block,
+        continuing: Block,
+        break_if: Option<Handle<Expression>>,
+    },
     Store {
         pointer: Handle<Expression>,
         value: Handle<Expression>,
@@ -169,19 +195,40 @@ pub enum Statement {
     },
 }
 
+#[derive(Clone, Copy, Debug, PartialEq, Eq, Serialize)]
+pub enum SwitchValue {
+    I32(i32),
+    Default,
+}
+
+#[derive(Clone, Debug, PartialEq, Serialize)]
+pub struct SwitchCase {
+    pub value: SwitchValue,
+    pub body: Block,
+    pub fall_through: bool,
+}
+
 #[derive(Clone, Debug, Default, PartialEq, Serialize)]
 #[serde(transparent)]
 pub struct Block {
     body: Vec<Statement>,
+    #[serde(skip)]
+    spans: Vec<Span>,
 }
 
 impl Block {
-    pub const fn from_vec(body: Vec<Statement>) -> Block {
-        Block { body }
+    pub fn from_vec(body: Vec<Statement>) -> Block {
+        let spans = vec![Span::UNDEFINED; body.len()];
+        Block { body, spans }
     }
 
-    pub fn push(&mut self, end: Statement, _span: Span) {
+    pub fn push(&mut self, end: Statement, span: Span) {
         self.body.push(end);
+        self.spans.push(span);
+    }
+
+    pub fn span_iter(&self) -> impl Iterator<Item = (&Statement, &Span)> {
+        self.body.iter().zip(&self.spans)
     }
 }
 

@@ -8,19 +8,19 @@
 //!
 //! let module = shader();
 //! let info = Validator::new(ValidationFlags::all(), Capabilities::all()).validate(&module).unwrap();
-//! let text = yorwethul_naga::write(&module, &info, Flags::PORTABLE | Flags::DECIMAL_FLOATS)?;
+//! let text = yorwethul_naga::write(&module, &info, Flags::default())?;
 //! # Ok::<(), yorwethul_naga::Error>(())
 //! ```
 //!
-//! With these two flags floats are written, and the text has what standard compilers ask for;
-//! with [`Flags::empty`] a literal of a float is refused.
+//! With [`Flags::default`] floats are written, and the text has what standard compilers ask for; with
+//! [`Flags::empty`] a literal of a float is refused.
 //!
 //! [`write_module`] takes the module alone, and the types of its expressions are found by it:
 //!
 //! ```no_run
 //! # let module = naga::Module::default();
 //! # use yorwethul_naga::Flags;
-//! let text = yorwethul_naga::write_module(&module, Flags::PORTABLE | Flags::DECIMAL_FLOATS)?;
+//! let text = yorwethul_naga::write_module(&module, Flags::default())?;
 //! # Ok::<(), yorwethul_naga::Error>(())
 //! ```
 //!
@@ -31,13 +31,14 @@
 #![forbid(unsafe_code)]
 
 mod known;
+mod span;
 mod text;
 
-pub use yorwethul::{self, Flags};
+pub use yorwethul::{self, Construct, Flags, Item, Part, Position};
 
 use known::Known;
 use naga::valid::ModuleInfo;
-use naga::Module;
+use naga::{Module, Span};
 use std::fmt;
 
 /// A module with a longer JSON goes to a thread of its own, since deep operands take stack by the
@@ -61,6 +62,22 @@ impl Error {
             Error::Yorwethul(error) => error.construct(),
             Error::Untold(_) => None,
         }
+    }
+
+    /// What kind of construct that is, unless Yorwethul's library is a later one that knows a further kind.
+    pub fn construct_kind(&self) -> Option<Construct> {
+        self.construct().and_then(Construct::of)
+    }
+
+    /// The item, the part of a function and the statement that [`Error::position`] tells.
+    pub fn place(&self) -> Option<Position> {
+        self.position().and_then(Position::of)
+    }
+
+    /// Where in the source it stands, if the module that was to be written has a span of it: that of the expression, the
+    /// local or the statement, or of the item.
+    pub fn span(&self, module: &Module) -> Option<Span> {
+        span::span_of(module, self.place()?)
     }
 
     /// The position in the module, where one is told: `module.functions[0].expressions[3], in
@@ -159,6 +176,29 @@ fn laid_out(json: &str) -> Result<String, Error> {
         yorwethul::layout_json(json)?
     } else {
         yorwethul::layout_json_on_thread(json)?
+    })
+}
+
+/// Tells which identifier of the text that the module has under these flags stands for which item of it, as
+/// JSON in one line ([`yorwethul::names_json`]), on a thread of its own where [`write`] takes one.
+///
+/// # Panics
+///
+/// As [`write`].
+pub fn names(module: &Module, info: &ModuleInfo, flags: Flags) -> Result<String, Error> {
+    named(&json(module, info)?, flags)
+}
+
+/// Tells the same of a module alone.
+pub fn names_module(module: &Module, flags: Flags) -> Result<String, Error> {
+    named(&module_json(module)?, flags)
+}
+
+fn named(json: &str, flags: Flags) -> Result<String, Error> {
+    Ok(if json.len() <= LONGEST_HERE {
+        yorwethul::names_json(json, flags)?
+    } else {
+        yorwethul::names_json_on_thread(json, flags)?
     })
 }
 

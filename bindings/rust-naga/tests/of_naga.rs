@@ -7,7 +7,8 @@ use naga::{
 };
 use naga::{LocalVariable, MathFunction, Module, PredeclaredType, Range, Scalar, Span, Statement};
 use naga::{StructMember, Type, TypeInner, UnaryOperator};
-use yorwethul_naga::{json, layout, layout_module, module_json, write, write_module, Error, Flags};
+use yorwethul_naga::{json, layout, layout_module, module_json, names, names_module};
+use yorwethul_naga::{write, write_module, Construct, Error, Flags, Item};
 
 const SPAN: Span = Span::UNDEFINED;
 
@@ -88,6 +89,9 @@ fn a_module_alone_is_written() {
         write(&module, &known(&module), flags)
     );
     assert_eq!(layout_module(&module).as_deref(), Ok(""));
+    let named = names(&module, &known(&module), flags).unwrap();
+    assert!(named.contains("{\"handle\":0,\"identifier\":\"double\",\"label\":\"double\"}"));
+    assert_eq!(names_module(&module, flags), Ok(named));
     let told = module_json(&module).unwrap();
     assert!(told.starts_with("{\"module\":{"), "{told}");
     assert!(!told.contains("\"info\""), "{told}");
@@ -175,9 +179,8 @@ fn a_refusal_tells_the_construct_and_its_position() {
     let mut module = Module::default();
     let ty = scalar(&mut module, Scalar::F32);
     let mut half = function("half", ty);
-    let value = half
-        .expressions
-        .append(Expression::Literal(Literal::F32(0.5)), SPAN);
+    let literal = Expression::Literal(Literal::F32(0.5));
+    let value = half.expressions.append(literal, Span::new(30, 33));
     returns(&mut half, value);
     module.functions.append(half, SPAN);
     let error = write(&module, &known(&module), Flags::empty()).unwrap_err();
@@ -192,6 +195,8 @@ fn a_refusal_tells_the_construct_and_its_position() {
     let text = "fn half(x: f32) -> f32 {\n    return 0.5f;\n}\n\n";
     let told = write(&module, &known(&module), Flags::DECIMAL_FLOATS);
     assert_eq!(told.as_deref(), Ok(text));
+    assert_eq!(error.construct_kind(), Some(Construct::FloatLiteral));
+    assert_eq!(error.span(&module), Some(Span::new(30, 33)));
     fn is_an_error<E: std::error::Error + Send + Sync + 'static>(_: &E) {}
     is_an_error(&error);
 }
@@ -210,6 +215,8 @@ fn an_info_of_another_module_is_not_accepted() {
     };
     assert_eq!(error.position(), Some("module.functions[0], statement 1"));
     assert_eq!(error.function(), Some("double"));
+    let place = error.place().unwrap();
+    assert_eq!((place.item, place.statement), (Item::Function(0), Some(1)));
 }
 
 #[test]

@@ -7,7 +7,6 @@ use yorwethul::{write_json_on_thread, Flags};
 fn main() -> Result<(), Box<dyn Error>> {
     let file = env::args().nth(1).ok_or("which file?")?;
     let json = fs::read_to_string(file)?;
-    let flags = Flags::PORTABLE | Flags::DECIMAL_FLOATS;
-    print!("{}", write_json_on_thread(&json, flags)?);
+    print!("{}", write_json_on_thread(&json, Flags::default())?);
     Ok(())
 }

@@ -1,3 +1,4 @@
+use crate::{Construct, Position};
 use alloc::string::String;
 use core::fmt;
 
@@ -67,6 +68,16 @@ impl Error {
         }
     }
 
+    /// What kind of construct that is, unless the archive is a later one that knows a further kind.
+    pub fn construct_kind(&self) -> Option<Construct> {
+        self.construct().and_then(Construct::of)
+    }
+
+    /// The item, the part of a function and the statement that [`Error::position`] tells, where it tells an item.
+    pub fn place(&self) -> Option<Position> {
+        self.position().and_then(Position::of)
+    }
+
     /// The position in the JSON, where one is told.
     pub fn position(&self) -> Option<&str> {
         match self {
@@ -114,7 +125,9 @@ impl fmt::Display for Error {
     fn fmt(&self, f: &mut fmt::Formatter<'_>) -> fmt::Result {
         match self {
             Error::Refused {
-                construct, position, ..
+                construct,
+                position,
+                ..
             } if position.is_empty() => {
                 write!(f, "refused: {construct}")
             }
@@ -156,3 +169,43 @@ impl fmt::Display for Error {
 }
 
 impl core::error::Error for Error {}
+
+/// Why [`crate::write_json_to`] put no text, or not all of it, where it was to go.
+#[derive(Clone, Debug, PartialEq, Eq)]
+#[non_exhaustive]
+pub enum WriteError {
+    /// There is no text, and nothing was put there.
+    NoText(Error),
+    /// What takes the text failed; a beginning of it may stand there.
+    Sink(fmt::Error),
+}
+
+impl From<Error> for WriteError {
+    fn from(error: Error) -> WriteError {
+        WriteError::NoText(error)
+    }
+}
+
+impl From<fmt::Error> for WriteError {
+    fn from(error: fmt::Error) -> WriteError {
+        WriteError::Sink(error)
+    }
+}
+
+impl fmt::Display for WriteError {
+    fn fmt(&self, f: &mut fmt::Formatter<'_>) -> fmt::Result {
+        match self {
+            WriteError::NoText(error) => error.fmt(f),
+            WriteError::Sink(error) => error.fmt(f),
+        }
+    }
+}
+
+impl core::error::Error for WriteError {
+    fn source(&self) -> Option<&(dyn core::error::Error + 'static)> {
+        match self {
+            WriteError::NoText(error) => Some(error),
+            WriteError::Sink(error) => Some(error),
+        }
+    }
+}

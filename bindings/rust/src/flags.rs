@@ -1,8 +1,17 @@
-use core::ops::{BitOr, BitOrAssign};
+use core::fmt;
+use core::ops::{BitAnd, BitOr, BitOrAssign};
 
-/// How a module is written.
-#[derive(Clone, Copy, Debug, Default, PartialEq, Eq, Hash)]
+/// How a module is written. [`Flags::default`] is what Yorwethul's program does: [`Flags::PORTABLE`] and
+/// [`Flags::DECIMAL_FLOATS`], which shaders want as they come from naga.
+#[derive(Clone, Copy, PartialEq, Eq, Hash)]
 pub struct Flags(u32);
+
+/// Each flag with its name.
+const NAMES: [(&str, Flags); 3] = [
+    ("EXPLICIT_TYPES", Flags::EXPLICIT_TYPES),
+    ("PORTABLE", Flags::PORTABLE),
+    ("DECIMAL_FLOATS", Flags::DECIMAL_FLOATS),
+];
 
 impl Flags {
     /// Each `let` tells its type.
@@ -12,8 +21,9 @@ impl Flags {
     /// subgroups stands in it.
     pub const PORTABLE: Flags = Flags(crate::sys::PORTABLE);
 
-    /// Floats are written, by the digits that Rust's formatting gives them. Without this flag a
-    /// module with a literal of a float is refused, as `float literal`.
+    /// Floats are written, by the digits that Rust's formatting gives them, and names may end in
+    /// digits, as `pass2`. Without this flag a module with a literal of a float is refused, as
+    /// `float literal`, and such a name is `pass2_`.
     pub const DECIMAL_FLOATS: Flags = Flags(crate::sys::DECIMAL_FLOATS);
 
     /// No flag.
@@ -21,14 +31,70 @@ impl Flags {
         Flags(0)
     }
 
+    /// All flags.
+    pub const fn all() -> Flags {
+        Flags(Self::EXPLICIT_TYPES.0 | Self::PORTABLE.0 | Self::DECIMAL_FLOATS.0)
+    }
+
     /// The bits, as `yorwethul.h` has them.
     pub const fn bits(self) -> u32 {
         self.0
     }
 
+    /// The flags that have these bits, unless one of them is no flag's.
+    ///
+    /// ```
+    /// use yorwethul::Flags;
+    /// assert_eq!(Flags::from_bits(3), Some(Flags::EXPLICIT_TYPES | Flags::PORTABLE));
+    /// assert_eq!(Flags::from_bits(8), None);
+    /// ```
+    pub const fn from_bits(bits: u32) -> Option<Flags> {
+        if bits & !Self::all().0 == 0 {
+            Some(Flags(bits))
+        } else {
+            None
+        }
+    }
+
+    /// Whether no flag is set.
+    pub const fn is_empty(self) -> bool {
+        self.0 == 0
+    }
+
     /// Whether all flags of the other are set here.
     pub const fn contains(self, other: Flags) -> bool {
         self.0 & other.0 == other.0
+    }
+
+    /// Sets the flags of the other.
+    pub fn insert(&mut self, other: Flags) {
+        self.0 |= other.0;
+    }
+
+    /// Unsets the flags of the other.
+    pub fn remove(&mut self, other: Flags) {
+        self.0 &= !other.0;
+    }
+}
+
+impl Default for Flags {
+    fn default() -> Flags {
+        Flags::PORTABLE | Flags::DECIMAL_FLOATS
+    }
+}
+
+/// The names of the flags that are set: `Flags(PORTABLE | DECIMAL_FLOATS)`.
+impl fmt::Debug for Flags {
+    fn fmt(&self, f: &mut fmt::Formatter<'_>) -> fmt::Result {
+        let mut separator = "";
+        f.write_str("Flags(")?;
+        for (name, flag) in NAMES {
+            if self.contains(flag) {
+                write!(f, "{separator}{name}")?;
+                separator = " | ";
+            }
+        }
+        f.write_str(")")
     }
 }
 
@@ -42,6 +108,14 @@ impl BitOr for Flags {
 
 impl BitOrAssign for Flags {
     fn bitor_assign(&mut self, other: Flags) {
-        self.0 |= other.0;
+        self.insert(other);
+    }
+}
+
+impl BitAnd for Flags {
+    type Output = Flags;
+
+    fn bitand(self, other: Flags) -> Flags {
+        Flags(self.0 & other.0)
     }
 }

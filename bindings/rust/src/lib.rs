@@ -15,14 +15,14 @@
 //!         "body": [{"Emit": {"start": 2, "end": 3}}, {"Return": {"value": 2}}]
 //!     }]
 //! }"#;
-//! let text = yorwethul::write_json(json, Flags::PORTABLE | Flags::DECIMAL_FLOATS)?;
+//! let text = yorwethul::write_json(json, Flags::default())?;
 //! assert_eq!(text, "fn half(x: f32) -> f32 {\n    return (x * 0.5f);\n}\n\n");
 //! # Ok::<(), yorwethul::Error>(())
 //! ```
 //!
-//! With these two flags shaders are written as they come from naga. Without
-//! [`Flags::DECIMAL_FLOATS`] a literal of a float is refused, and without [`Flags::PORTABLE`] the text
-//! lacks what only standard compilers ask for.
+//! [`Flags::default`] is what shaders want as they come from naga. Without [`Flags::DECIMAL_FLOATS`] a
+//! literal of a float is refused, and a name that ends in a digit gets a `_`; without
+//! [`Flags::PORTABLE`] the text lacks what only standard compilers ask for.
 //!
 //! The types of expressions are found by the module. Those that a validator found are used instead where
 //! they come with it, as `{"module": .., "info": ..}`: of the info the types of expressions are read.
@@ -41,8 +41,8 @@
 //! A call takes some 128 KiB of stack, up to 8 bytes more for each byte of the JSON where operands
 //! stand deep in one another, and never more than [`STACK`]: a module that is nested deeper than
 //! 4,000 levels is [`Error::TooDeep`]. For JSON of whatever origin call [`write_json_on_thread`],
-//! [`check_json_on_thread`] or [`layout_json_on_thread`], or call on a thread that has
-//! [`stack_size`] bytes.
+//! [`check_json_on_thread`], [`layout_json_on_thread`] or [`names_json_on_thread`], or call on a thread
+//! that has [`stack_size`] bytes.
 //!
 //! # Without std
 //!
@@ -58,17 +58,22 @@ extern crate alloc;
 #[cfg(feature = "std")]
 extern crate std;
 
+mod construct;
 mod error;
 mod flags;
+mod position;
 mod sys;
 #[cfg(test)]
 mod tests;
 
-pub use error::Error;
+pub use construct::Construct;
+pub use error::{Error, WriteError};
 pub use flags::Flags;
+pub use position::{Item, Part, Position};
 
 use alloc::string::String;
 use alloc::vec::Vec;
+use core::fmt;
 use core::str::Chars;
 
 /// Writes the module that the JSON holds as WGSL.
@@ -93,6 +98,24 @@ pub fn write_json(json: &str, flags: Flags) -> Result<String, Error> {
             )
         }
     })
+}
+
+/// [`write_json`] into what takes text, as a `String` or a formatter does. Where there is no text, nothing is put into it.
+///
+/// ```
+/// use yorwethul::{Flags, WriteError};
+/// let mut text = String::from("// made by a tool\n");
+/// yorwethul::write_json_to(r#"{"functions": [{"name": "f"}]}"#, Flags::default(), &mut text)?;
+/// assert_eq!(text, "// made by a tool\nfn f() {\n}\n\n");
+/// # Ok::<(), WriteError>(())
+/// ```
+pub fn write_json_to(
+    json: &str,
+    flags: Flags,
+    out: &mut impl fmt::Write,
+) -> Result<(), WriteError> {
+    out.write_str(&write_json(json, flags)?)?;
+    Ok(())
 }
 
 /// Says whether the module that the JSON holds is accepted: `Ok`, or [`Error::NotAccepted`].
@@ -154,6 +177,38 @@ pub fn layout_json(json: &str) -> Result<String, Error> {
     })
 }
 
+/// Tells which identifier of the text that the module has under these flags stands for which item of it,
+/// as JSON in one line. It asks whether the module is accepted, and not whether it has a text.
+///
+/// Each entry point, override, global variable, struct with its members, function and labelled constant
+/// has its label in the module and its identifier in the text.
+///
+/// Deep operands take much stack: see [`names_json_on_thread`].
+///
+/// ```
+/// use yorwethul::Flags;
+///
+/// let json = r#"{"module": {"functions": [{"name": "fn"}]}}"#;
+/// let names = yorwethul::names_json(json, Flags::PORTABLE | Flags::DECIMAL_FLOATS)?;
+/// assert!(names.contains(r#""functions":[{"handle":0,"identifier":"fn_","label":"fn"}]"#));
+/// # Ok::<(), yorwethul::Error>(())
+/// ```
+pub fn names_json(json: &str, flags: Flags) -> Result<String, Error> {
+    text_of(json.len(), |out, needed| {
+        // SAFETY: as in `write_json`.
+        unsafe {
+            sys::yorwethul_names(
+                json.as_ptr(),
+                json.len(),
+                flags.bits(),
+                out.as_mut_ptr(),
+                out.len(),
+                needed,
+            )
+        }
+    })
+}
+
 /// [`write_json`] on a thread of its own, whose stack is enough for the JSON.
 #[cfg(feature = "std")]
 pub fn write_json_on_thread(json: &str, flags: Flags) -> Result<String, Error> {
@@ -170,6 +225,12 @@ pub fn check_json_on_thread(json: &str) -> Result<(), Error> {
 #[cfg(feature = "std")]
 pub fn layout_json_on_thread(json: &str) -> Result<String, Error> {
     on_thread(json, || layout_json(json))
+}
+
+/// [`names_json`] on a thread of its own, whose stack is enough for the JSON.
+#[cfg(feature = "std")]
+pub fn names_json_on_thread(json: &str, flags: Flags) -> Result<String, Error> {
+    on_thread(json, || names_json(json, flags))
 }
 
 /// What a call with this JSON gives, on a thread of its own, whose stack is enough for it.

@@ -213,11 +213,185 @@ fn an_error_goes_between_threads_and_into_a_box() {
 #[test]
 fn flags_are_bits() {
     let mut flags = Flags::empty();
-    assert!(!flags.contains(Flags::EXPLICIT_TYPES) && flags == Flags::default());
+    assert!(!flags.contains(Flags::EXPLICIT_TYPES) && flags.is_empty());
     flags |= Flags::EXPLICIT_TYPES;
     assert_eq!(flags | Flags::empty(), Flags::EXPLICIT_TYPES);
     assert_eq!((flags.bits(), flags.contains(Flags::empty())), (1, true));
-    flags |= Flags::PORTABLE;
+    flags.insert(Flags::PORTABLE);
     assert_eq!((flags.bits(), flags.contains(Flags::PORTABLE)), (3, true));
     assert_eq!((flags | Flags::DECIMAL_FLOATS).bits(), 7);
+    assert_eq!(Flags::all().bits(), 7);
+    flags.remove(Flags::EXPLICIT_TYPES);
+    assert_eq!(flags, Flags::PORTABLE);
+    assert_eq!(Flags::default() & Flags::PORTABLE, Flags::PORTABLE);
+    assert_eq!(Flags::default().bits(), 6);
+    for bits in 0..16 {
+        assert_eq!(
+            Flags::from_bits(bits).map(Flags::bits),
+            (bits < 8).then_some(bits)
+        );
+    }
+    let shown = alloc::format!("{:?} {:?}", Flags::default(), Flags::empty());
+    assert_eq!(shown, "Flags(PORTABLE | DECIMAL_FLOATS) Flags()");
+}
+
+#[test]
+fn constructs_are_told_by_their_words() {
+    let error = told(
+        sys::REFUSED,
+        "operand out of scope: functions[0].expressions[2]",
+    )
+    .unwrap_err();
+    assert_eq!(error.construct_kind(), Some(Construct::OutOfScope));
+    assert_eq!(Construct::OutOfScope.to_string(), "operand out of scope");
+    let error = told(
+        sys::REFUSED,
+        "Unsupported builtin value: ViewIndex: module.types[3]",
+    )
+    .unwrap_err();
+    assert_eq!(error.construct_kind(), Some(Construct::BuiltIn));
+    let error = told(sys::REFUSED, "a new one: module.types[3]").unwrap_err();
+    assert_eq!(
+        (error.construct(), error.construct_kind()),
+        (Some("a new one"), None)
+    );
+}
+
+#[test]
+fn positions_are_told_in_fields() {
+    let function = Item::Function(2);
+    let value = Some(Part::Expression(7));
+    for (told, item, part, statement) in [
+        ("module", Item::Module, None, None),
+        ("module.types[5]", Item::Type(5), None, None),
+        ("constants[0]", Item::Constant(0), None, None),
+        ("module.overrides[1]", Item::Override(1), None, None),
+        (
+            "module.global_variables[9]",
+            Item::GlobalVariable(9),
+            None,
+            None,
+        ),
+        (
+            "module.global_expressions[9].Binary.left",
+            Item::GlobalExpression(9),
+            None,
+            None,
+        ),
+        ("functions[2]", function, None, None),
+        ("module.functions[2], statement 3", function, None, Some(3)),
+        ("module.functions[2].expressions[7]", function, value, None),
+        (
+            "module.functions[2].expressions[7], in statement 4",
+            function,
+            value,
+            Some(4),
+        ),
+        (
+            "functions[2].expressions[7], operand value of statement 12",
+            function,
+            value,
+            Some(12),
+        ),
+        (
+            "functions[2].expressions[7], operand components[2] of expressions[42] in statement 12",
+            function,
+            value,
+            Some(12),
+        ),
+        (
+            "functions[2].expressions[7], first value of local_variables[1]",
+            function,
+            value,
+            None,
+        ),
+        (
+            "functions[2].expressions[7], given again by statement 3",
+            function,
+            value,
+            Some(3),
+        ),
+        (
+            "functions[2].expressions[7], which needs no Emit, in statement 4",
+            function,
+            value,
+            Some(4),
+        ),
+        (
+            "functions[2].expressions[7], in break if of statement 12",
+            function,
+            value,
+            Some(12),
+        ),
+        (
+            "functions[2].expressions[7], the type of its let in statement 2",
+            function,
+            value,
+            Some(2),
+        ),
+        (
+            "functions[2].expressions[7].Binary.left",
+            function,
+            value,
+            None,
+        ),
+        (
+            "module.functions[2].arguments[1]",
+            function,
+            Some(Part::Argument(1)),
+            None,
+        ),
+        (
+            "module.functions[2].result",
+            function,
+            Some(Part::Result),
+            None,
+        ),
+        (
+            "functions[2].local_variables[1]",
+            function,
+            Some(Part::LocalVariable(1)),
+            None,
+        ),
+        (
+            "module.entry_points[0].function.expressions[7], in statement 0",
+            Item::EntryPoint(0),
+            value,
+            Some(0),
+        ),
+        ("module.entry_points[0]", Item::EntryPoint(0), None, None),
+    ] {
+        let position = Position {
+            item,
+            part,
+            statement,
+        };
+        assert_eq!(Position::of(told), Some(position), "{told}");
+    }
+    for told in [
+        "",
+        "info",
+        "types",
+        "types[]",
+        "module.nothing[1]",
+        "types[-1]",
+    ] {
+        assert_eq!(Position::of(told), None, "{told}");
+    }
+    let error = super::tests::told(sys::REFUSED, "float literal: module.types[3]").unwrap_err();
+    assert_eq!(error.place().map(|place| place.item), Some(Item::Type(3)));
+}
+
+#[test]
+fn what_takes_a_text_may_fail() {
+    struct Full;
+    impl fmt::Write for Full {
+        fn write_str(&mut self, _: &str) -> fmt::Result {
+            Err(fmt::Error)
+        }
+    }
+    let error = WriteError::from(Error::TooLong);
+    assert_eq!(error.to_string(), "text too long");
+    let put = (|| -> Result<(), WriteError> { Ok(fmt::Write::write_str(&mut Full, "")?) })();
+    assert_eq!(put, Err(WriteError::Sink(fmt::Error)));
 }

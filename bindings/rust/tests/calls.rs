@@ -1,8 +1,10 @@
 //! What the calls give, by the archive.
 
 use std::thread;
-use yorwethul::{check_json, layout_json, library_version, stack_size, write_json, STACK};
-use yorwethul::{check_json_on_thread, layout_json_on_thread, write_json_on_thread};
+use yorwethul::{check_json, layout_json, library_version, names_json, stack_size, write_json, STACK};
+use yorwethul::{
+    check_json_on_thread, layout_json_on_thread, names_json_on_thread, write_json_on_thread,
+};
 use yorwethul::{Error, Flags};
 
 const DOUBLE: &str = r#"{
@@ -27,6 +29,11 @@ fn double(x: i32) -> i32 {
 
 ";
 
+/// What is told of the names of `DOUBLE`.
+const NAMES: &str = "{\"constants\":[],\"entry_points\":[],\
+    \"functions\":[{\"handle\":0,\"identifier\":\"double\",\"label\":\"double\"}],\
+    \"globals\":[],\"overrides\":[],\"structs\":[]}";
+
 /// A function with so many negations in one another.
 fn nested(depth: usize) -> String {
     let negations: String = (0..depth)
@@ -50,6 +57,7 @@ fn a_module_is_written() {
     assert_eq!(write_json(DOUBLE, Flags::EXPLICIT_TYPES), Ok(explicit));
     assert_eq!(check_json(DOUBLE), Ok(()));
     assert_eq!(layout_json(DOUBLE).as_deref(), Ok(""));
+    assert_eq!(names_json(DOUBLE, Flags::empty()).as_deref(), Ok(NAMES));
 }
 
 /// The module of `DOUBLE` alone, as a member and as all of the JSON.
@@ -211,6 +219,8 @@ fn deep_operands_take_a_stack() {
     assert_eq!(text.matches("-(").count(), 3_999);
     assert_eq!(check_json_on_thread(&json), Ok(()));
     assert_eq!(layout_json_on_thread(&json).as_deref(), Ok(""));
+    let names = names_json_on_thread(&json, Flags::empty()).unwrap();
+    assert_eq!(names, NAMES.replace("double", "deep"));
     assert!(stack_size(&json) <= STACK);
 }
 

@@ -41,6 +41,7 @@ use Rattle.module_semantics.specs.acceptance.OperandDemands.{operand_is, operand
 use Rattle.module_semantics.specs.acceptance.Ranges.{all_below, all_by_handle, block_in_range}
 use Rattle.module_semantics.specs.acceptance.Ranges.{constant_in_range, declarations_in_range}
 use Rattle.module_semantics.specs.acceptance.Ranges.{entry_point_in_range, expression_in_range}
+use Rattle.module_semantics.specs.acceptance.Ranges.{size_overrides_fit}
 use Rattle.module_semantics.specs.acceptance.Ranges.{expressions_in_range, function_in_range}
 use Rattle.module_semantics.specs.acceptance.Ranges.{global_expression_in_range, global_in_range}
 use Rattle.module_semantics.specs.acceptance.Ranges.{initialiser_before, is_below, local_in_range}
@@ -66,7 +67,7 @@ use Rattle.decimal_floats.specs.Decimals.{IsDecimalModule}
 use Rattle.decimal_floats.proofs.Literals.{decimal_scalar, decimal_within}
 use Rattle.decimal_floats.proofs.Lists.{all_kept, all_same, and_kept, paired_same, numbered_kept}
 use Rattle.decimal_floats.proofs.Lists.{numbered_same, seen_same}
-use Rattle.decimal_floats.proofs.DecimalItems.{along}
+use Rattle.decimal_floats.proofs.DecimalItems.{along, same_entry_points, same_expressions, same_functions}
 
 -- a fact in the midst of others
 kept_fourth : (a b c x y d : Bool) → (x ≡ true → y ≡ true) →
@@ -75,14 +76,6 @@ kept_fourth false b c x y d f h = h
 kept_fourth true false c x y d f h = h
 kept_fourth true true false x y d f h = h
 kept_fourth true true true x y d f h = and_kept x d y d f (λ r. r) h
-
-kept_fifth : (a b c d x y : Bool) → (x ≡ true → y ≡ true) →
-    (a && (b && (c && (d && x)))) ≡ true → (a && (b && (c && (d && y)))) ≡ true
-kept_fifth false b c d x y f h = h
-kept_fifth true false c d x y f h = h
-kept_fifth true true false d x y f h = h
-kept_fifth true true true false x y f h = h
-kept_fifth true true true true x y f h = f h
 
 kept_sixth : (a b c d e x y : Bool) → (x ≡ true → y ≡ true) →
     (a && (b && (c && (d && (e && x))))) ≡ true →
@@ -100,7 +93,10 @@ kept_third false b x y c f h = h
 kept_third true false x y c f h = h
 kept_third true true x y c f h = and_kept x c y c f (λ r. r) h
 
-module _ (m new : Module) (all : IsDecimalModule m new) where
+module _ (m new : Module)
+    (expressions : AllZip IsDecimalExpression m.global_expressions new.global_expressions)
+    (functions : AllZip IsDecimalFunction m.functions new.functions)
+    (entry_points : AllZip IsDecimalEntryPoint m.entry_points.items new.entry_points.items) where
   abbrev es : List Expression
   es = new.global_expressions
 
@@ -110,17 +106,14 @@ module _ (m new : Module) (all : IsDecimalModule m new) where
   abbrev ps : List EntryPoint
   ps = new.entry_points.items
 
-  abbrev expressions : AllZip IsDecimalExpression m.global_expressions es
-  expressions = all.expressions
-
-  abbrev functions : AllZip IsDecimalFunction m.functions fs
-  functions = all.functions
-
-  abbrev entry_points : AllZip IsDecimalEntryPoint m.entry_points.items ps
-  entry_points = all.entry_points
-
+  -- and names may keep their digits, or not
   abbrev n : Module
-  n = record m { global_expressions = es; functions = fs; entry_points = new.entry_points }
+  n = record m {
+    global_expressions = es;
+    functions = fs;
+    entry_points = new.entry_points;
+    keeps_digits = new.keeps_digits;
+  }
 
   function_count : length fs ≡ length m.functions
   function_count = AllZip-long IsDecimalFunction m.functions fs functions
@@ -197,11 +190,12 @@ module _ (m new : Module) (all : IsDecimalModule m new) where
   entry_point_kept p q r h =
       let count = length m.global_variables in
       subst (λ (k : EntryPoint). entry_point_in_range n k ≡ true) (sym r.rest)
-      (kept_fifth
+      (kept_sixth
       (is_below count (option_map (λ k. k.output_variable) p.mesh_info))
       (is_below count p.task_payload)
       (is_below count p.incoming_ray_payload)
-      (workgroup_fits_32_bits p.workgroup_size)
+      (size_overrides_fit m p)
+      (workgroup_fits_32_bits p)
       (function_in_range m (length m.functions) p.function)
       (function_in_range n (length fs) q.function)
       (λ in_range. function_kept (length fs) p.function q.function r.function
@@ -448,5 +442,13 @@ module _ (m new : Module) (all : IsDecimalModule m new) where
 pub decimal_is_accepted : (old new : Module) → IsDecimalModule old new → (info : ModuleInfo) →
     is_accepted old info ≡ true → is_accepted new info ≡ true
 decimal_is_accepted old new r info h =
-    subst (λ (k : Module). is_accepted k info ≡ true) (sym r.rest)
-    (all_kept_of old new r info h)
+    subst (λ (k : Module). is_accepted k info ≡ true)
+    (sym (ap (λ (k : Module). record k { keeps_digits = new.keeps_digits }) r.rest))
+    (all_kept_of old new r.expressions r.functions r.entry_points info h)
+
+-- a module that is accepted is accepted whether its names keep their digits or not
+pub keeping_is_accepted : (m : Module) (keeps : Bool) (info : ModuleInfo) →
+    is_accepted m info ≡ true → is_accepted (record m { keeps_digits = keeps }) info ≡ true
+keeping_is_accepted m keeps info h =
+    all_kept_of m (record m { keeps_digits = keeps }) (same_expressions m.global_expressions)
+    (same_functions m.functions) (same_entry_points m.entry_points.items) info h

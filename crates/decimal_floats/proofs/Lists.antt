@@ -1,6 +1,9 @@
 -- Lists side by side, whose items are related one by one.
 use Rattle.std.proofs.Common.{◌≡◌, ℕ, suc, zero, ◌+◌, ◌<◌, Bool, true, false, ◌&&◌, ◌==◌}
-use Rattle.std.proofs.Common.{List, [], ◌∷◌, length, get_or, set, refl, ap, subst, ◌∙◌, arith}
+use Rattle.std.proofs.Common.{List, [], ◌∷◌, length, get_or, set, take, refl, sym, ap, subst, ◌∙◌, arith}
+use Rattle.std.proofs.Common.{◌≤◌, add-one}
+use Rattle.std.proofs.lemmas.Bool.{true≢false}
+use Rattle.std.proofs.lemmas.List.{take_all}
 use Rattle.std.specs.Prelude.{Option, Some, None, slice_get}
 use Rattle.std.specs.List.{AllZip, enumerate_from, list_all, zip}
 use Rattle.std.proofs.lemmas.Slice.Zip.{AllZip-long}
@@ -113,3 +116,31 @@ module _ {X Y : Type 0} (R : X → Y → Type 0) where
   seen_same p q none some (x ∷ xs) (y ∷ ys) h zero = some x y h.0
   seen_same p q none some (x ∷ xs) (y ∷ ys) h (suc k) =
       seen_same p q none some xs ys h.1 k
+
+-- ---- the items up to an index
+module _ {X : Type 0} (p : X → Bool) where
+  both : (a b : Bool) → a ≡ true → b ≡ true → (a && b) ≡ true
+  both a b x y = λ i. x i && y i
+
+  first : (a b : Bool) → (a && b) ≡ true → a ≡ true
+  first true b h = refl
+  first false b h = h
+
+  second : (a b : Bool) → (a && b) ≡ true → b ≡ true
+  second true b h = h
+  second false b h = absurd (true≢false (sym h))
+
+  pub all_more : (xs : List X) (i : ℕ) (y : X) → i < length xs → list_all p (take i xs) ≡ true → p y ≡ true →
+      list_all p (take (i + 1) (set xs i y)) ≡ true
+  all_more xs i y lt h k = rw add-one (by xs i lt h)
+    where
+      by : (xs : List X) (i : ℕ) → i < length xs → list_all p (take i xs) ≡ true →
+          list_all p (take (suc i) (set xs i y)) ≡ true
+      by [] i lt h = absurd (omega (arith, lt))
+      by (x ∷ xs) zero lt h = both (p y) true k refl
+      by (x ∷ xs) (suc i) lt h =
+          both (p x) (list_all p (take (suc i) (set xs i y))) (first (p x) (list_all p (take i xs)) h)
+          (by xs i (omega (arith, lt)) (second (p x) (list_all p (take i xs)) h))
+
+  pub all_done : (xs : List X) (i : ℕ) → length xs ≤ i → list_all p (take i xs) ≡ true → list_all p xs ≡ true
+  all_done xs i le h = ap (list_all p) (sym (take_all i xs le)) ∙ h

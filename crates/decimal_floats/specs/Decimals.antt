@@ -3,11 +3,12 @@
 --
 -- Throughout, of two literals, expressions, functions, entry points or modules the first is as it
 -- was before, and the second as it is afterwards.
-use Rattle.std.specs.Prelude.{◌≡◌, ◌⊎◌, IsTrue}
-use Rattle.std.specs.List.{AllZip}
+use Rattle.std.specs.Prelude.{◌≡◌, ◌⊎◌, ◌%◌, ◌^◌, Bool, true, IsTrue, nat_le}
+use Rattle.std.specs.List.{AllZip, list_all}
 use Rattle.naga_ir.specs.declared.expression.Expression.{Expression}
 use Rattle.naga_ir.specs.declared.expression.Expression.TheVariants as expression
 use Rattle.naga_ir.specs.declared.expression.Literal as ir
+use Rattle.naga_ir.specs.declared.expression.Literal.TheVariants as literal
 use Rattle.naga_ir.specs.declared.module.EntryPoint.{EntryPoint}
 use Rattle.naga_ir.specs.declared.module.Function.{Function}
 use Rattle.naga_ir.specs.declared.module.Module.{Module}
@@ -43,3 +44,32 @@ pub record IsDecimalModule (old new : Module) : Type 0 where
     functions = new.functions;
     entry_points = new.entry_points;
   }
+
+-- the module, where names keep the digits that their labels end in
+abbrev pub keeping_digits : Module → Module
+keeping_digits m = record m { keeps_digits = true }
+
+-- ---- which literals are still held as their bits: infinities and NaNs, whose bits without the sign
+-- are those of an infinity or more
+
+abbrev pub holds_no_finite_bits : ir.Literal → Bool
+holds_no_finite_bits (literal.F64 bits) = nat_le 0x7ff0_0000_0000_0000 (bits % 2 ^ 63)
+holds_no_finite_bits (literal.F32 bits) = nat_le 0x7f80_0000 (bits % 2 ^ 31)
+holds_no_finite_bits (literal.F16 bits) = nat_le 0x7c00 (bits % 2 ^ 15)
+holds_no_finite_bits value = true
+
+abbrev pub expression_is_decimal : Expression → Bool
+expression_is_decimal (expression.Literal value) = holds_no_finite_bits value
+expression_is_decimal e = true
+
+abbrev pub function_is_decimal : Function → Bool
+function_is_decimal f = list_all expression_is_decimal f.expressions
+
+abbrev pub entry_point_is_decimal : EntryPoint → Bool
+entry_point_is_decimal p = function_is_decimal p.function
+
+-- each float of the module that is finite has a numeral, wherever it stands
+pub record IsDecimalThroughout (m : Module) : Type 0 where
+  pub expressions : IsTrue (list_all expression_is_decimal m.global_expressions)
+  pub functions : IsTrue (list_all function_is_decimal m.functions)
+  pub entry_points : IsTrue (list_all entry_point_is_decimal m.entry_points.items)

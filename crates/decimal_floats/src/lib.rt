@@ -1,15 +1,20 @@
 //! Float literals of a module become decimal: they get numerals, as a text has them.
 //!
 //! A module from a front end holds its floats as bits, and a text has no literal of bits.
-//! [`floats_to_decimals`] gives each the numeral that Rust's formatting chooses, if there is one
-//! that denotes the very bits. That a float gets one at all, and these digits, is only tested; what
-//! is proved is that nothing but literals is changed, and each has its value as before.
+//! [`floats_to_decimals`] gives each that is finite the numeral that Rust's formatting chooses. That
+//! it has these digits is only tested; what is proved is that each gets one, nothing but literals is
+//! changed, and each has its value as before.
+//!
+//! [`keep_digits`] lets names keep the digits that their labels end in. Both are what the program
+//! `yorwethul` asks for.
 #![tactic(auto)]
 
 mod decimals;
+mod digits;
 mod laws;
 #[cfg(test)]
 mod tests;
 
 pub use decimals::{decimal_literal, floats_to_decimals};
+pub use digits::keep_digits;
 pub use laws::{decimal_literals_keep_their_values, numerals_stay};

@@ -2,7 +2,7 @@
 --
 -- Throughout, m is a module, new what it becomes, and p and q are entry points and f and g
 -- functions, as they were before and afterwards.
-use Rattle.std.proofs.Common.{◌≡◌, ℕ, List, [], ◌∷◌, ◌++◌, refl, ap}
+use Rattle.std.proofs.Common.{◌≡◌, ℕ, List, [], ◌∷◌, ◌++◌, refl, ap, ◌∙◌}
 use Rattle.std.specs.Prelude.{None, codes, if◌then◌else◌, unwrap_or}
 use Rattle.std.specs.List.{AllZip, enumerate_from, flat_map}
 use Rattle.std.specs.Map.{lookup, update_all}
@@ -72,7 +72,16 @@ module _ (m new : Module) (all : IsDecimalModule m new) where
   pub items_same : (start : Names) → labelled_items start n ≡ labelled_items start m
   items_same start = λ i. declarations_same i ++ labelled_values (type_name_same start i) m
 
+  -- whether digits are kept, too, is no matter of floats
+  pub start_same : wgsl_names n ≡ wgsl_names m
+  unfolding wgsl_names
+  start_same = refl
+
   pub names_same : module_names n ≡ module_names m
   unfolding module_names
-  names_same = λ i key.
-      update_all same_key (λ _. None) (named_items wgsl_names (items_same wgsl_names i)) key
+  names_same =
+      (λ i key.
+      update_all same_key (λ _. None)
+      (named_items (start_same i) (labelled_items (start_same i) n)) key)
+      ∙ (λ i key.
+      update_all same_key (λ _. None) (named_items (wgsl_names m) (items_same (wgsl_names m) i)) key)

@@ -31,6 +31,7 @@ use Rattle.module_semantics.specs.acceptance.Initialisers.{constant_is_sound, gl
 use Rattle.module_semantics.specs.acceptance.Initialisers.{initialiser_fits, override_is_sound}
 use Rattle.module_semantics.specs.acceptance.Numbers.{fits_16_bits, resource_fits_32_bits}
 use Rattle.module_semantics.specs.acceptance.Numbers.{workgroup_fits_32_bits}
+use Rattle.module_semantics.proofs.EntryPointRanges.{entry_point_fits}
 use Rattle.module_semantics.specs.acceptance.Ranges.{all_below, all_by_handle, constant_in_range}
 use Rattle.module_semantics.specs.acceptance.Ranges.{declarations_in_range, entry_point_in_range}
 use Rattle.module_semantics.specs.acceptance.Ranges.{expression_in_range, function_in_range}
@@ -355,14 +356,7 @@ module _ (m : Module) (info : ModuleInfo) (ranges : IsTrue (module_ranges_fit m 
     where
       in_range : (p : EntryPoint) → entry_point_in_range m p ≡ true →
           function_in_range m (length m.functions) p.function ≡ true
-      in_range p fits =
-          let mesh = is_below (length m.global_variables) (option_map (λ k. k.output_variable) p.mesh_info) in
-          let task = is_below (length m.global_variables) p.task_payload in
-          let ray = is_below (length m.global_variables) p.incoming_ray_payload in
-          let group = workgroup_fits_32_bits p.workgroup_size in
-          let own = function_in_range m (length m.functions) p.function in
-          (and_parts group own (and_parts ray (group && own)
-          (and_parts task (ray && (group && own)) (and_parts mesh (task && (ray && (group && own))) fits).1).1).1).1
+      in_range p fits = (entry_point_fits m p fits).function
 
   item_told : (at : FaultPosition) (kind : Fault) → IsOfItem kind → ItemFails m info at kind → Told kind at
   item_told item.Module kind of fails = absurd (no_module kind of fails)

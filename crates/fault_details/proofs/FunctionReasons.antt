@@ -65,7 +65,7 @@ use Rattle.fault_details.specs.Reasons.{answer_demands, call_demands, declared_d
 use Rattle.fault_details.specs.Reasons.{expected_demands, expression_demands, function_demands}
 use Rattle.fault_details.specs.Reasons.{letter_demands, operand_demands, own_demands, own_type_demands}
 use Rattle.fault_details.specs.Reasons.{passed_demands, simple_demands, statement_demands, typeless_demands}
-use Rattle.fault_details.specs.declared.words.ListName.TheVariants as list
+use Rattle.module_semantics.specs.declared.named.ListName.TheVariants as list
 use Rattle.fault_details.specs.declared.words.TypeClass.{TypeClass}
 use Rattle.fault_details.specs.declared.words.TypeClass.TheVariants as class
 use Rattle.fault_details.proofs.Reasoning.{IsKnown, asked_of, both, class_same, item_before, none_is}

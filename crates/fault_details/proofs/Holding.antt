@@ -30,7 +30,7 @@ use Rattle.fault_details.specs.Demands.{IsCaseOf, HasValue, HasNoValue, Passes, 
 use Rattle.fault_details.specs.Demands.{unmet}
 use Rattle.fault_details.specs.Holds.{IsReason, ReasonsHold}
 use Rattle.fault_details.specs.Reasons.{item_demands, reason_at, use_reason}
-use Rattle.fault_details.specs.declared.words.ListName.{ListName}
+use Rattle.module_semantics.specs.declared.named.ListName.{ListName}
 use Rattle.fault_details.proofs.ScalarsApart.{signed_apart, unsigned_apart}
 
 module _ {X : Type 0} (P : X → Type 0) where

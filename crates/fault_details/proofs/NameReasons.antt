@@ -30,7 +30,7 @@ use Rattle.naga_spelling.specs.Spelling.{length_within, size_within}
 use Rattle.naga_acceptance.specs.Faults.{ConstantFails, EntryPointFails, EntryPositionFails, FaultIs}
 use Rattle.naga_acceptance.specs.Faults.{FunctionFails, FunctionPositionFails, GlobalExpressionFails}
 use Rattle.naga_acceptance.specs.Faults.{GlobalFails, ItemFails, ModuleFails, OverrideFails, TypeFails}
-use Rattle.naga_acceptance.specs.Faults.{entry_names_fit, known_of, names_there}
+use Rattle.naga_acceptance.specs.Faults.{entry_names_fit, known_of}
 use Rattle.naga_acceptance.specs.TextOrder.{case_values_fit_32_bits, is_in_range, own_in_range, text_order}
 use Rattle.naga_acceptance.specs.declared.faults.Fault.{Fault}
 use Rattle.naga_acceptance.specs.declared.faults.Fault.TheVariants as fault
@@ -39,6 +39,7 @@ use Rattle.naga_acceptance.specs.declared.faults.FunctionPosition.TheVariants as
 use Rattle.naga_acceptance.specs.declared.faults.FaultPosition.{FaultPosition}
 use Rattle.naga_acceptance.specs.declared.faults.FaultPosition.TheVariants as item
 use Rattle.module_semantics.proofs.Lists.{list_all_at}
+use Rattle.module_semantics.specs.acceptance.NamedItems.{names_there}
 use Rattle.module_semantics.specs.acceptance.Numbers.{fits_16_bits, resource_fits_32_bits}
 use Rattle.module_semantics.specs.acceptance.Numbers.{signature_fits_32_bits, type_fits_32_bits}
 use Rattle.module_semantics.specs.acceptance.Numbers.{workgroup_fits_32_bits}
@@ -46,16 +47,17 @@ use Rattle.module_semantics.specs.acceptance.Ranges.{all_below, constant_in_rang
 use Rattle.module_semantics.specs.acceptance.Ranges.{initialiser_before, is_below, local_in_range}
 use Rattle.module_semantics.specs.acceptance.Ranges.{named_in_range, numbers_in_range}
 use Rattle.module_semantics.specs.acceptance.Ranges.{override_in_range, parts_before, signature_types_fit}
+use Rattle.module_semantics.specs.acceptance.Ranges.{size_overrides_fit}
 use Rattle.module_semantics.specs.TypeParts.{inner_at}
 use Rattle.fault_details.specs.Demands.{Demands, OfEach, are_met, there, unmet}
 use Rattle.fault_details.specs.Reasons.{entry_point_demands, expression_demands, function_demands}
 use Rattle.fault_details.specs.Reasons.{global_demands, initialiser_demands, item_demands, length_demands}
-use Rattle.fault_details.specs.Reasons.{declared_demands, made_demands, module_demands, name_demands, part_demands}
+use Rattle.fault_details.specs.Reasons.{declared_demands, made_demands, module_demands, part_demands}
 use Rattle.fault_details.specs.Reasons.{reason_at, simple_name_demands, size_demands, statement_demands}
-use Rattle.fault_details.specs.Reasons.{statement_name_demands, variables_demands, whole_demands}
+use Rattle.fault_details.specs.Reasons.{stage_demands, statement_name_demands, whole_demands}
 use Rattle.fault_details.specs.WithReason.{AreNumbered, AreOfTheirTypes, HasItsNumbers, IsOfNames}
-use Rattle.fault_details.specs.WithReason.{NameFaultsHaveReasons, case_numbers_fit, own_numbers_fit}
-use Rattle.fault_details.specs.declared.words.ListName.TheVariants as list
+use Rattle.fault_details.specs.WithReason.{NameFaultsHaveReasons, case_numbers_fit}
+use Rattle.module_semantics.specs.declared.named.ListName.TheVariants as list
 use Rattle.fault_details.proofs.Reasoning.{both, placed_told, some_then, told, turned, unfit_told}
 
 -- ---- numbers, which are of their types
@@ -85,12 +87,6 @@ module _ (m : Module) where
   length_same overrides (inner.Array base length stride) = size_same overrides length
   length_same overrides (inner.BindingArray base length) = size_same overrides length
   length_same overrides _ = refl
-
-  name_same : (arguments locals : ℕ) (e : Expression) → own_numbers_fit e ≡ true →
-      names_there m arguments locals e ≡ Met (name_demands m arguments locals e)
-  name_same arguments locals (expression.AccessIndex base index) fit = fit
-  name_same arguments locals (expression.Swizzle size vector pattern) fit = fit
-  name_same arguments locals _ fit = refl
 
   initialiser_same : (here : ℕ) (e : Expression) → initialiser_before m here e ≡ Met (initialiser_demands m here e)
   initialiser_same here (expression.Constant h) = refl
@@ -156,8 +152,7 @@ module _ (m : Module) (f : Function) (known : List TypeResolution) (callees : �
   expression_told h fault.Names of fails =
       unfit_told m.types (names_there m (length f.arguments.items) (length f.local_variables))
       (expression_demands m (Some f) known fault.Names h) (slice_get f.expressions h)
-      (λ e at. name_same m (length f.arguments.items) (length f.local_variables) e
-      (list_all_at own_numbers_fit f.expressions h e fit.expressions at)) fails
+      (λ e at. refl) fails
   expression_told h fault.Numeral of fails = absurd of
   expression_told h fault.KnownType of fails = absurd of
   expression_told h fault.OtherType of fails = absurd of
@@ -256,7 +251,7 @@ module _ (m : Module) (info : ModuleInfo) (fit : AreOfTheirTypes m) (numbered : 
   global_told h fault.Names of fails =
       unfit_told m.types (names_there m 0 0)
       (expression_demands m None info.const_expression_types.items fault.Names h) (slice_get m.global_expressions h)
-      (λ e at. name_same m 0 0 e (list_all_at own_numbers_fit m.global_expressions h e fit.expressions at)) fails
+      (λ e at. refl) fails
   global_told h fault.LaterInitialiser of fails =
       unfit_told m.types (initialiser_before m h)
       (expression_demands m None info.const_expression_types.items fault.LaterInitialiser h)
@@ -274,20 +269,20 @@ module _ (m : Module) (info : ModuleInfo) (fit : AreOfTheirTypes m) (numbered : 
       (slice_get m.functions h) f at (part_of_told m f (known_of info.functions.items h) h
       (fit.functions h f at) (numbered.functions h f at) position kind of fails)
 
-  -- the variables that an entry point names, without its workgroup's sizes
-  variables_told : (p : EntryPoint) → workgroup_fits_32_bits p.workgroup_size ≡ true → entry_names_fit m p ≡ false →
-      IsSome (unmet m.types (variables_demands (length m.global_variables) p))
-  variables_told p sizes fails =
-      told m.types (variables_demands (length m.global_variables) p)
-      (sym (both refl (both refl (without_last (is_below (length m.global_variables) p.incoming_ray_payload)
-      (workgroup_fits_32_bits p.workgroup_size) sizes))) ∙ fails)
+  -- what an entry point names beside its function, without the numbers of its workgroup's size
+  stage_told : (p : EntryPoint) → workgroup_fits_32_bits p ≡ true → entry_names_fit m p ≡ false →
+      IsSome (unmet m.types (stage_demands (length m.global_variables) (length m.overrides) p))
+  stage_told p sizes fails =
+      told m.types (stage_demands (length m.global_variables) (length m.overrides) p)
+      (sym (both refl (both refl (both refl (without_last (size_overrides_fit m p)
+      (workgroup_fits_32_bits p) sizes)))) ∙ fails)
 
   entry_told : (p : EntryPoint) (known : List TypeResolution) →
-      IsTrue (workgroup_fits_32_bits p.workgroup_size) × HasItsNumbers p.function →
+      IsTrue (workgroup_fits_32_bits p) × HasItsNumbers p.function →
       length (text_order p.function.body) ≤ 2 ^ 64 → (position : FunctionPosition) (kind : Fault) → IsOfNames kind →
       EntryPositionFails m p known position kind →
       IsSome (unmet m.types (entry_point_demands m p known kind position))
-  entry_told p known within few part.Whole fault.Names of fails = variables_told p within.0 fails
+  entry_told p known within few part.Whole fault.Names of fails = stage_told p within.0 fails
   entry_told p known within few (part.Local h) fault.Names of fails =
       part_of_told m p.function known (length m.functions) within.1 few (part.Local h) fault.Names of fails
   entry_told p known within few (part.Expression h) fault.Names of fails =

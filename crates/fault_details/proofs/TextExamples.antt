@@ -4,7 +4,7 @@ use Rattle.std.specs.Fmt.{digits}
 use Rattle.fault_details.specs.Texts.{many_text, mismatch_text}
 use Rattle.fault_details.specs.declared.mismatch.Mismatch.TheVariants as mismatch
 use Rattle.fault_details.specs.declared.words.Counted.TheVariants as counted
-use Rattle.fault_details.specs.declared.words.ListName.TheVariants as list
+use Rattle.module_semantics.specs.declared.named.ListName.TheVariants as list
 use Rattle.fault_details.specs.declared.words.Need.TheVariants as need
 
 too_few_known : mismatch_text (mismatch.Number counted.Expressions 12 11) ≡ codes "expected 12 expressions, got 11"

@@ -33,8 +33,8 @@ use Rattle.module_semantics.specs.acceptance.StatementsFit.{case_value_is_of, is
 use Rattle.module_semantics.specs.TypeIdentity.{component_count}
 use Rattle.module_semantics.specs.TypeParts.{has_computed_parts, points_to_atomic, vector_scalar}
 use Rattle.fault_details.specs.declared.words.Counted.{Counted}
-use Rattle.fault_details.specs.declared.words.ListName.{ListName}
-use Rattle.fault_details.specs.declared.words.ListName.TheVariants as list
+use Rattle.module_semantics.specs.declared.named.ListName.{ListName}
+use Rattle.module_semantics.specs.declared.named.ListName.TheVariants as list
 use Rattle.fault_details.specs.declared.words.Need.{Need}
 use Rattle.fault_details.specs.declared.words.TypeClass.{TypeClass}
 use Rattle.fault_details.specs.declared.words.TypeClass.TheVariants as class

@@ -53,6 +53,7 @@ use Rattle.naga_acceptance.specs.declared.faults.FunctionPosition.TheVariants as
 use Rattle.naga_acceptance.specs.declared.faults.Unaccepted.{Unaccepted}
 use Rattle.module_semantics.specs.acceptance.ExpressionTypes.{ExpectedType, LikeThis, Anything}
 use Rattle.module_semantics.specs.acceptance.ExpressionTypes.{Nothing, expected_type}
+use Rattle.module_semantics.specs.acceptance.NamedItems.{count_of, named_item}
 use Rattle.module_semantics.specs.acceptance.StatementsFit.{case_values_differ, has_case_value}
 use Rattle.module_semantics.specs.acceptance.StatementsFit.{components_pointer, is_atomic_result}
 use Rattle.module_semantics.specs.acceptance.StatementsFit.{is_ballot_result, is_result}
@@ -66,8 +67,8 @@ use Rattle.fault_details.specs.Demands.{OfSome, Begins, Ends, HasNumber, Gives, 
 use Rattle.fault_details.specs.Demands.{IsCaseOf, HasValue, HasNoValue, unmet, there, before}
 use Rattle.fault_details.specs.Demands.{of_class, of_type, needed}
 use Rattle.fault_details.specs.declared.words.Counted.TheVariants as counted
-use Rattle.fault_details.specs.declared.words.ListName.{ListName}
-use Rattle.fault_details.specs.declared.words.ListName.TheVariants as list
+use Rattle.module_semantics.specs.declared.named.ListName.{ListName}
+use Rattle.module_semantics.specs.declared.named.ListName.TheVariants as list
 use Rattle.fault_details.specs.declared.words.Need.TheVariants as need
 use Rattle.fault_details.specs.declared.words.TypeClass.TheVariants as class
 
@@ -100,27 +101,8 @@ known_demands overrides types (Value it) =
 
 -- what an expression names beside its operands
 abbrev pub name_demands : Module → (arguments locals : ℕ) → Expression → Demands
-name_demands m arguments locals (expression.Constant h) =
-    there list.Constants (length m.constants) h
-name_demands m arguments locals (expression.Override h) =
-    there list.Overrides (length m.overrides) h
-name_demands m arguments locals (expression.ZeroValue ty) = there list.Types (length m.types) ty
-name_demands m arguments locals (expression.Compose ty components) =
-    there list.Types (length m.types) ty
-name_demands m arguments locals (expression.AtomicResult ty comparison) =
-    there list.Types (length m.types) ty
-name_demands m arguments locals (expression.WorkGroupUniformLoadResult ty) =
-    there list.Types (length m.types) ty
-name_demands m arguments locals (expression.SubgroupOperationResult ty) =
-    there list.Types (length m.types) ty
-name_demands m arguments locals (expression.FunctionArgument number) =
-    there list.Arguments arguments number
-name_demands m arguments locals (expression.GlobalVariable h) =
-    there list.GlobalVariables (length m.global_variables) h
-name_demands m arguments locals (expression.LocalVariable h) = there list.LocalVariables locals h
-name_demands m arguments locals (expression.CallResult function) =
-    there list.Functions (length m.functions) function
-name_demands m arguments locals _ = NoDemand
+name_demands m arguments locals e =
+    OfSome (λ n. there n.0 (count_of m arguments locals n.0) n.1) (named_item e)
 
 -- the initialiser of the constant or override that a global expression names
 abbrev pub initialiser_demands : Module → (here : ℕ) → Expression → Demands
@@ -388,18 +370,19 @@ function_demands m callees f known kind (part.Expression h) =
 function_demands m callees f known kind (part.Statement n) =
     OfSome (statement_demands m callees f known kind) (slice_get (text_order f.body) n)
 
--- the variables that an entry point names
-abbrev pub variables_demands : (variables : ℕ) → EntryPoint → Demands
-variables_demands variables p =
+-- the variables that an entry point names, and the overrides that set its workgroup's size
+abbrev pub stage_demands : (variables overrides : ℕ) → EntryPoint → Demands
+stage_demands variables overrides p =
     Then (OfSome (there list.GlobalVariables variables)
     (option_map (λ k. k.output_variable) p.mesh_info))
     (Then (OfSome (there list.GlobalVariables variables) p.task_payload)
-    (OfSome (there list.GlobalVariables variables) p.incoming_ray_payload))
+    (Then (OfSome (there list.GlobalVariables variables) p.incoming_ray_payload)
+    (OfEach (OfSome (there list.Overrides overrides)) p.workgroup_size_overrides)))
 
 abbrev pub entry_point_demands :
     Module → EntryPoint → (known : List TypeResolution) → Fault → FunctionPosition → Demands
 entry_point_demands m p known fault.Names part.Whole =
-    variables_demands (length m.global_variables) p
+    stage_demands (length m.global_variables) (length m.overrides) p
 entry_point_demands m p known kind position =
     function_demands m (length m.functions) p.function known kind position
 

@@ -9,24 +9,12 @@ use Rattle.fault_details.specs.declared.mismatch.Mismatch.{Mismatch}
 use Rattle.fault_details.specs.declared.mismatch.Mismatch.TheVariants as mismatch
 use Rattle.fault_details.specs.declared.words.Counted.{Counted}
 use Rattle.fault_details.specs.declared.words.Counted.TheVariants as counted
-use Rattle.fault_details.specs.declared.words.ListName.{ListName}
-use Rattle.fault_details.specs.declared.words.ListName.TheVariants as list
+use Rattle.module_semantics.specs.declared.named.ListName.{ListName}
+use Rattle.module_semantics.specs.acceptance.NamedItems.{list_text}
 use Rattle.fault_details.specs.declared.words.Need.{Need}
 use Rattle.fault_details.specs.declared.words.Need.TheVariants as need
 use Rattle.fault_details.specs.declared.words.TypeClass.{TypeClass}
 use Rattle.fault_details.specs.declared.words.TypeClass.TheVariants as class
-
--- a list, by its name in the JSON of a module
-abbrev pub list_text : ListName → List ℕ
-list_text list.Types = codes "types"
-list_text list.Constants = codes "constants"
-list_text list.Overrides = codes "overrides"
-list_text list.GlobalVariables = codes "global_variables"
-list_text list.GlobalExpressions = codes "global_expressions"
-list_text list.Functions = codes "functions"
-list_text list.Expressions = codes "expressions"
-list_text list.Arguments = codes "arguments"
-list_text list.LocalVariables = codes "local_variables"
 
 -- an item of a list, as `expressions[41]`
 abbrev pub item_text : ListName → (h : ℕ) → List ℕ

@@ -19,7 +19,7 @@ use Rattle.fault_details.specs.Demands.{Reason, OtherType, KnownType, OtherClass
 use Rattle.fault_details.specs.Demands.{Unexpected, Absent, Later, OtherNumber, OtherUse, PastParts}
 use Rattle.fault_details.specs.Demands.{LacksLetter, Needs}
 use Rattle.fault_details.specs.Texts.{item_text}
-use Rattle.fault_details.specs.declared.words.ListName.TheVariants as list
+use Rattle.module_semantics.specs.declared.named.ListName.TheVariants as list
 use Rattle.fault_details.specs.declared.mismatch.Mismatch.{Mismatch}
 use Rattle.fault_details.specs.declared.mismatch.Mismatch.TheVariants as told
 

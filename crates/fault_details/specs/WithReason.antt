@@ -9,8 +9,6 @@ use Rattle.std.specs.Prelude.{IsSome, IsTrue}
 use Rattle.std.specs.List.{list_all}
 use Rattle.std.specs.Option.{option_map_or}
 use Rattle.naga_ir.specs.StatementTree.{StatementTree, switch}
-use Rattle.naga_ir.specs.declared.expression.Expression.{Expression}
-use Rattle.naga_ir.specs.declared.expression.Expression.TheVariants as expression
 use Rattle.naga_ir.specs.declared.module.EntryPoint.{EntryPoint}
 use Rattle.naga_ir.specs.declared.module.Function.{Function}
 use Rattle.naga_ir.specs.declared.module.Module.{Module}
@@ -21,7 +19,7 @@ use Rattle.naga_acceptance.specs.TextOrder.{case_values_fit_32_bits, text_order}
 use Rattle.naga_acceptance.specs.declared.faults.Fault.{Fault}
 use Rattle.naga_acceptance.specs.declared.faults.Fault.TheVariants as fault
 use Rattle.naga_acceptance.specs.declared.faults.Unaccepted.{Unaccepted}
-use Rattle.module_semantics.specs.acceptance.Numbers.{fits_16_bits, fits_32_bits, pattern_is_whole}
+use Rattle.module_semantics.specs.acceptance.Numbers.{fits_16_bits}
 use Rattle.module_semantics.specs.acceptance.Numbers.{resource_fits_32_bits, signature_fits_32_bits}
 use Rattle.module_semantics.specs.acceptance.Numbers.{type_fits_32_bits, workgroup_fits_32_bits}
 use Rattle.module_semantics.specs.acceptance.Ranges.{module_ranges_fit}
@@ -56,12 +54,6 @@ IsOfNames fault.Operands = ⊤
 IsOfNames fault.LaterInitialiser = ⊤
 IsOfNames _ = ⊥
 
--- an index that is known has 32 bits, and a pattern four letters
-abbrev pub own_numbers_fit : Expression → Bool
-own_numbers_fit (expression.AccessIndex base index) = fits_32_bits index
-own_numbers_fit (expression.Swizzle size vector pattern) = pattern_is_whole pattern
-own_numbers_fit _ = true
-
 -- the case values of a switch have 32 bits
 abbrev pub case_numbers_fit : StatementTree → Bool
 case_numbers_fit (switch selector cs) = case_values_fit_32_bits cs
@@ -70,7 +62,6 @@ case_numbers_fit _ = true
 -- Each number of a function is one of its type.
 pub record HasItsNumbers (f : Function) : Type 0 where
   pub signature : IsTrue (signature_fits_32_bits f)
-  pub expressions : IsTrue (list_all own_numbers_fit f.expressions)
   pub statements : IsTrue (list_all (λ s. case_numbers_fit s.tree) (text_order f.body))
 
 -- So is each number of a module, as in the code it always is.
@@ -79,10 +70,9 @@ pub record AreOfTheirTypes (m : Module) : Type 0 where
   pub overrides : IsTrue (list_all (λ k. option_map_or fits_16_bits k.id true) m.overrides)
   pub variables :
       IsTrue (list_all (λ k. option_map_or resource_fits_32_bits k.binding true) m.global_variables)
-  pub expressions : IsTrue (list_all own_numbers_fit m.global_expressions)
   pub functions : (h : ℕ) (f : Function) → slice_get m.functions h ≡ Some f → HasItsNumbers f
   pub entry_points : (h : ℕ) (p : EntryPoint) → slice_get m.entry_points.items h ≡ Some p
-      → IsTrue (workgroup_fits_32_bits p.workgroup_size) × HasItsNumbers p.function
+      → IsTrue (workgroup_fits_32_bits p) × HasItsNumbers p.function
 
 -- A fault of what is named is told with its reason.
 abbrev pub NameFaultsHaveReasons : Type 0

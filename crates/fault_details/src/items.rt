@@ -17,13 +17,14 @@ ghost use Rattle.fault_details.specs.Shown.{shown};
 
 use crate::names::{
     absent_if, initialiser_reason, known_reason, length_reason, named_reason, names_reason,
-    order_reason, part_reason, signature_reason, special_reason, variables_reason,
+    order_reason, part_reason, signature_reason, special_reason, stage_reason,
 };
 use crate::reasons::{Reason, absent, number_reason};
 use crate::statements::statement_reason;
 use crate::types::{operand_reason, own_type_reason, type_reason};
 use crate::walk::statement_at;
-use crate::words::{Counted, ListName};
+use crate::words::Counted;
+use module_semantics::ListName;
 use module_semantics::type_parts::inner_at;
 use naga_acceptance::other_uses::other_use;
 use naga_acceptance::parts::{InferredType, Known, known_type};
@@ -318,7 +319,7 @@ fn entry_point_reason<'a>(
         «module».now entry_point.now (known_types known.entry) fault position) }
 {
     match (position, fault) {
-        (FunctionPosition::Whole, Fault::Names) => variables_reason(module, entry_point),
+        (FunctionPosition::Whole, Fault::Names) => stage_reason(module, entry_point),
         _ => {
             let callees = module.functions.len();
             function_reason(

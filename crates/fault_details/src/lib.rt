@@ -19,4 +19,5 @@ mod words;
 
 pub use mismatch::Mismatch;
 pub use spelled::explain;
-pub use words::{Counted, ListName, Need, TypeClass};
+pub use module_semantics::ListName;
+pub use words::{Counted, Need, TypeClass};

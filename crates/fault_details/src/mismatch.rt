@@ -3,7 +3,8 @@
 ghost use Rattle.std.specs.Prelude.{Some};
 ghost use Rattle.fault_details.specs.Texts.{mismatch_text};
 
-use crate::words::{Counted, ListName, Many, Need, Numbered, There, TypeClass, letter_str};
+use crate::words::{Counted, Many, Need, Numbered, There, TypeClass, letter_str};
+use module_semantics::ListName;
 use naga_acceptance::FaultPosition;
 use naga_ir::SwizzleComponent;
 use std::fmt;

@@ -12,16 +12,18 @@ ghost use Rattle.fault_details.specs.Reasons.{order_demands, own_name_demands, p
 ghost use Rattle.fault_details.specs.Reasons.{ray_demands, signature_demands, size_demands};
 ghost use Rattle.fault_details.specs.Reasons.{special_demands};
 ghost use Rattle.fault_details.specs.Reasons.{statement_name_demands, texture_demands};
-ghost use Rattle.fault_details.specs.Reasons.{variables_demands};
+ghost use Rattle.fault_details.specs.Reasons.{stage_demands};
 ghost use Rattle.fault_details.specs.Shown.{shown};
 
 use crate::reasons::{Reason, absent, not_before};
-use crate::words::ListName;
+use module_semantics::ListName;
+use module_semantics::named::{count_of, named_item};
 use indexmap::IndexMap;
 use naga_info::TypeResolution;
 use naga_ir::{
     ArraySize, EntryPoint, Expression, Function, FunctionArgument, FunctionResult, Handle,
-    ItemIndex, Module, PredeclaredType, SpecialTypes, Statement, StructMember, Type_, TypeInner,
+    ItemIndex, Module, Override, PredeclaredType, SpecialTypes, Statement, StructMember, Type_,
+    TypeInner,
 };
 
 /// An item that is not there, if one is named.
@@ -168,41 +170,9 @@ fn name_reason<'a>(
     ensures { option_map shown result
         ≡ unmet «module».now.types (name_demands «module».now arguments locals expression.now) }
 {
-    match expression {
-        Expression::Constant(handle) => {
-            absent(ListName::Constants, module.constants.len(), handle.index())
-        }
-        Expression::Override(handle) => {
-            absent(ListName::Overrides, module.overrides.len(), handle.index())
-        }
-        Expression::ZeroValue(ty)
-        | Expression::Compose { ty, .. }
-        | Expression::AtomicResult { ty, .. }
-        | Expression::WorkGroupUniformLoadResult { ty }
-        | Expression::SubgroupOperationResult { ty } => {
-            absent(ListName::Types, module.types.len(), ty.index())
-        }
-        Expression::FunctionArgument(number) => {
-            absent(ListName::Arguments, arguments, *number as usize)
-        }
-        Expression::GlobalVariable(handle) => {
-            absent(
-                ListName::GlobalVariables,
-                module.global_variables.len(),
-                handle.index(),
-            )
-        }
-        Expression::LocalVariable(handle) => {
-            absent(ListName::LocalVariables, locals, handle.index())
-        }
-        Expression::CallResult(function) => {
-            absent(
-                ListName::Functions,
-                module.functions.len(),
-                function.index(),
-            )
-        }
-        _ => None,
+    match named_item(expression) {
+        Some((list, index)) => absent(list, count_of(module, arguments, locals, list), index),
+        None => None,
     }
 }
 
@@ -395,10 +365,25 @@ pub(crate) fn named_reason<'a>(function: &Function) -> Option<Reason<'a>>
     None
 }
 
-/// The first variable of an entry point that is not there.
-pub(crate) fn variables_reason<'a>(module: &Module, entry_point: &EntryPoint) -> Option<Reason<'a>>
+/// The first of the overrides that set a workgroup's size that is not there.
+fn sizes_reason<'a>(overrides: usize, sizes: &[Option<Handle<Override>>]) -> Option<Reason<'a>>
+    ensures { option_map shown result
+        ≡ unmet [] (OfEach (OfSome (there ListName.Overrides overrides)) sizes.now) }
+{
+    for size in sizes {
+        let found = absent_if(ListName::Overrides, overrides, *size);
+        if found.is_some() {
+            return found;
+        }
+    }
+    None
+}
+
+/// The first variable or override of an entry point that is not there.
+pub(crate) fn stage_reason<'a>(module: &Module, entry_point: &EntryPoint) -> Option<Reason<'a>>
     ensures { option_map shown result ≡ unmet «module».now.types
-        (variables_demands (length «module».now.global_variables) entry_point.now) }
+        (stage_demands (length «module».now.global_variables) (length «module».now.overrides)
+        entry_point.now) }
 {
     let variables = module.global_variables.len();
     let list = ListName::GlobalVariables;
@@ -414,7 +399,14 @@ pub(crate) fn variables_reason<'a>(module: &Module, entry_point: &EntryPoint) ->
     if payload.is_some() {
         return payload;
     }
-    absent_if(list, variables, entry_point.incoming_ray_payload)
+    let incoming = absent_if(list, variables, entry_point.incoming_ray_payload);
+    if incoming.is_some() {
+        return incoming;
+    }
+    sizes_reason(
+        module.overrides.len(),
+        &entry_point.workgroup_size_overrides,
+    )
 }
 
 fn predeclared_reason<'a>(

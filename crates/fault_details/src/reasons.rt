@@ -5,7 +5,8 @@ ghost use Rattle.std.specs.Option.{option_map};
 ghost use Rattle.fault_details.specs.Demands.{HasNumber, One, before, needed, there, unmet};
 ghost use Rattle.fault_details.specs.Shown.{shown};
 
-use crate::words::{Counted, ListName, Need, TypeClass};
+use crate::words::{Counted, Need, TypeClass};
+use module_semantics::ListName;
 use naga_acceptance::FaultPosition;
 use naga_acceptance::parts::InferredType;
 use naga_info::TypeResolution;

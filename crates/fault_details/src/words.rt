@@ -1,53 +1,12 @@
-//! What is told by a word: lists, classes of types, and what statements need.
+//! What is told by a word: counts, classes of types, and what statements need.
 
 ghost use Rattle.std.specs.Prelude.{◌≡◌, Some};
 ghost use Rattle.fault_details.specs.Texts.{class_text, count_text, item_text, letter_text};
-ghost use Rattle.fault_details.specs.Texts.{list_text, many_text, need_text, singular_text};
+ghost use Rattle.fault_details.specs.Texts.{many_text, need_text, singular_text};
 
+use module_semantics::ListName;
 use naga_ir::SwizzleComponent;
 use std::fmt;
-
-/// A list of a module or of a function, of which an item is told by its number. It is shown by its
-/// name in the JSON of a module.
-#[derive(Debug, Clone, Copy, PartialEq, Eq)]
-pub enum ListName {
-    /// The module's types.
-    Types,
-    /// The module's constants.
-    Constants,
-    /// The module's overrides.
-    Overrides,
-    /// The module's variables.
-    GlobalVariables,
-    /// The module's own expressions.
-    GlobalExpressions,
-    /// The module's functions.
-    Functions,
-    /// The expressions of the function at the position.
-    Expressions,
-    /// The arguments of the function at the position.
-    Arguments,
-    /// The variables of the function at the position.
-    LocalVariables,
-}
-
-impl fmt::Display for ListName {
-    ghost output = { λ name. Some (list_text name) };
-
-    fn fmt<W: fmt::Write>(&self, f: &mut fmt::Formatter<W>) -> fmt::Result {
-        f.write_str(match self {
-            ListName::Types => "types",
-            ListName::Constants => "constants",
-            ListName::Overrides => "overrides",
-            ListName::GlobalVariables => "global_variables",
-            ListName::GlobalExpressions => "global_expressions",
-            ListName::Functions => "functions",
-            ListName::Expressions => "expressions",
-            ListName::Arguments => "arguments",
-            ListName::LocalVariables => "local_variables",
-        })
-    }
-}
 
 /// An item of a list, by its number: `expressions[41]`.
 #[derive(Clone, Copy)]

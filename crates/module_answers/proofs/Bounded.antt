@@ -12,8 +12,7 @@ use Rattle.naga_wgsl_out.specs.Checked.{IsCounted}
 use Rattle.naga_wgsl_out.specs.declared.unwritable.Refusal.{Refusal}
 use Rattle.naga_wgsl_out.specs.Within.{unfailed}
 use Rattle.naga_wgsl_out.proofs.Bounded.{appends_unfailed, faithful_unfailed, leaves_unfailed}
-use Rattle.naga_wgsl_out.proofs.Bounded.{matches_unfailed, whole_is_longer}
-use Rattle.naga_wgsl_out.proofs.Faithful.{leaves_beginning}
+use Rattle.naga_wgsl_out.proofs.Bounded.{matches_unfailed, past_bound}
 use Rattle.module_answers.specs.Within.{IsTooLong}
 use Rattle.module_answers.specs.WriteOutcomes.{AnswersWriting, TellsBeside}
 
@@ -32,8 +31,8 @@ is_too_long flags bound given m old new answer told beginning failures accepted 
   failures = failures;
   written = written;
   passed = passed;
-  longer = whole_is_longer flags m new bound answer [] beginning refl written.text
-      (leaves_beginning flags m new answer [] beginning 0 failures written.leaves) passed;
+  past = past_bound flags m new bound answer [] beginning 0 failures refl written.faithful written.text
+      written.leaves passed;
 }
 
 -- a refusal is told beside such an answer too: none where it told of the sink

@@ -1,5 +1,5 @@
 -- What is so of the writer's answer is so of want of memory in its place.
-use Rattle.std.proofs.Common.{◌≡◌, ℕ, List, inl, inr, subst, sym}
+use Rattle.std.proofs.Common.{◌≡◌, ◌∙◌, ℕ, List, [], append-nil, inl, inr, refl, subst, sym}
 use Rattle.std.specs.Prelude.{Err, IfErr, IfSome, IsErrAnd, MatchOption, None, Ok, OnOk, Option}
 use Rattle.std.specs.Prelude.{Result, Bool, Some, alloc_error}
 use Rattle.naga_back.specs.Flags.{annotates_types}
@@ -15,12 +15,15 @@ use Rattle.naga_wgsl_out.proofs.Faithful.{function_tells_of_module, refused}
 use Rattle.naga_wgsl_out.proofs.FirstRefusals.{one_position}
 use Rattle.naga_wgsl_out.proofs.ModuleScopes.{no_refusal}
 use Rattle.naga_wgsl_out.specs.Headline.{EachReading, FaithfulWriting, MatchesModule}
-use Rattle.naga_wgsl_out.specs.Leaving.{Leaves}
-use Rattle.naga_wgsl_out.specs.ModuleRefusals.{NothingIsRefused, RefusesOnlyFor}
+use Rattle.naga_wgsl_out.specs.Leaving.{EndsInFront, Leaves}
+use Rattle.naga_wgsl_out.specs.ModuleRefusals.{NeverBegins, NothingIsRefused, RefusesOnlyFor}
 use Rattle.naga_wgsl_out.specs.Unwritable.{IsFirst, StandsAt, StandsIn, TellsFirst}
 use Rattle.naga_wgsl_out.specs.Writing.{AppendsItsText, written_text}
 use Rattle.naga_wgsl_out.specs.declared.unwritable.Refusal.{Refusal}
-use Rattle.module_answers.specs.Wants.{IsAnswerOrMemory}
+use Rattle.naga_refusals.specs.declared.error.Error.TheVariants as error
+use Rattle.naga_wgsl_out.specs.Within.{unfailed}
+use Rattle.decimal_floats.specs.Decimals.{IsDecimalThroughout}
+use Rattle.module_answers.specs.Wants.{IsAnswerOrMemory, IsDecimalUnlessWanting}
 use Rattle.module_answers.specs.WriteOutcomes.{AnswersWriting, TellsBeside}
 
 -- ---- what is told beside an answer
@@ -60,11 +63,16 @@ leaves_told own flags m info (Err e) content now before after same leaves =
 
 module _ (flags : WriterFlags) (m : Module) (info : ModuleInfo) (content now : List ℕ) (before after : ℕ) where
   -- ---- want of memory
-  -- a beginning of the text stands in the sink
-  want_leaves : (e : AllocError) → IsAfter content (written_text m info flags) now →
-      Leaves flags m info (Err (Memory e)) content now before after
-  want_leaves e following = record {
-    following = following;
+  -- what is left of a text, whatever the answer is
+  abbrev IsLeft : Type 0
+  IsLeft = IsAfter content (written_text m info flags) now × EndsInFront flags m info content now ×
+      (NeverBegins m → now ≡ content)
+
+  want_leaves : (e : AllocError) → IsLeft → Leaves flags m info (Err (Memory e)) content now before after
+  want_leaves e left = record {
+    following = left.0;
+    in_front = left.1;
+    unbegun = left.2;
     untouched = λ first. absurd first.0;
     keys = λ of. absurd of;
     written_before = λ of. absurd (function_tells_of_module m (Memory e) of);
@@ -72,20 +80,24 @@ module _ (flags : WriterFlags) (m : Module) (info : ModuleInfo) (content now : L
     told = λ of. absurd of;
   }
 
-  pub want : (e : AllocError) → IsAfter content (written_text m info flags) now →
+  -- nothing is
+  pub want : (e : AllocError) → now ≡ content →
       AnswersWriting flags m info (Err (Memory e)) None content now before after
-  want e following = record {
+  want e nothing = record {
     faithful = refused flags m info (Memory e) content now before after tt;
     matches = tt;
     text = tt;
-    leaves = want_leaves e following;
+    leaves = want_leaves e (none (written_text m info flags), λ handle fails. none _, λ never. nothing);
     refusal = λ of. of;
   }
+    where
+      none : (text : List ℕ) → IsAfter content text now
+      none text = ([], text, refl, nothing ∙ sym (append-nil content))
 
-  following_written : (answer : Result Unit Error) → IsErrAnd answer TellsOfModule →
-      Leaves flags m info answer content now before after → IsAfter content (written_text m info flags) now
-  following_written (Ok x) tells leaves = absurd tells
-  following_written (Err e) tells leaves = leaves.following
+  left_by : (answer : Result Unit Error) → IsErrAnd answer TellsOfModule →
+      Leaves flags m info answer content now before after → IsLeft
+  left_by (Ok x) tells leaves = absurd tells
+  left_by (Err e) tells leaves = (leaves.following, leaves.in_front, leaves.unbegun)
 
   -- ---- the writer's answer, or want of memory in its place
   pub answer_or_memory : (answer told : Result Unit Error) (found : Option Refusal) → IsAnswerOrMemory answer told →
@@ -106,12 +118,33 @@ module _ (flags : WriterFlags) (m : Module) (info : ModuleInfo) (content now : L
       }
   answer_or_memory answer told found (inr wanted) faithful matches text leaves beside =
       let back = sym wanted.1 in
-      let following = following_written answer wanted.0 leaves in
+      let left = left_by answer wanted.0 leaves in
       record {
         faithful = subst (λ r. FaithfulWriting flags m info r content now before after) back
             (refused flags m info (Memory alloc_error) content now before after tt);
         matches = subst (λ r. OnOk r (EachReading content now (MatchesModule (annotates_types flags) m info))) back tt;
         text = subst (λ r. AppendsItsText m info flags r content now) back tt;
-        leaves = subst (λ r. Leaves flags m info r content now before after) back (want_leaves alloc_error following);
+        leaves = subst (λ r. Leaves flags m info r content now before after) back (want_leaves alloc_error left);
         refusal = beside;
       }
+
+-- ---- floats that are decimal
+pub decimal_anyway : (answer : Result Unit Error) (m : Module) → IsDecimalThroughout m → IsDecimalUnlessWanting answer m
+decimal_anyway (Err (Memory e)) m decimal = tt
+decimal_anyway (Ok x) m decimal = decimal
+decimal_anyway (Err (error.FmtError e)) m decimal = decimal
+decimal_anyway (Err (error.Custom text)) m decimal = decimal
+decimal_anyway (Err (error.Unimplemented text)) m decimal = decimal
+decimal_anyway (Err (error.UnsupportedRelationalFunction fun)) m decimal = decimal
+decimal_anyway (Err (error.Unsupported kind value)) m decimal = decimal
+
+-- also where a failure of the sink is told as want of memory
+pub decimal_unfailed : (answer : Result Unit Error) (m : Module) → IsDecimalUnlessWanting answer m →
+    IsDecimalUnlessWanting (unfailed answer) m
+decimal_unfailed (Err (Memory e)) m decimal = tt
+decimal_unfailed (Ok x) m decimal = decimal
+decimal_unfailed (Err (error.FmtError e)) m decimal = tt
+decimal_unfailed (Err (error.Custom text)) m decimal = decimal
+decimal_unfailed (Err (error.Unimplemented text)) m decimal = decimal
+decimal_unfailed (Err (error.UnsupportedRelationalFunction fun)) m decimal = decimal
+decimal_unfailed (Err (error.Unsupported kind value)) m decimal = decimal

@@ -3,3 +3,4 @@ pub mod WriteOutcomes
 pub mod Refusals
 pub mod Shaders
 pub mod Within
+pub mod StandardNames

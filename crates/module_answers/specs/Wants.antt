@@ -1,5 +1,7 @@
 -- Want of memory in the place of an answer.
-use Rattle.std.specs.Prelude.{◌≡◌, ◌⊎◌, Err, IsErrAnd, Result, alloc_error}
+use Rattle.std.specs.Prelude.{◌≡◌, ◌⊎◌, ⊤, Err, IsErrAnd, Result, alloc_error}
+use Rattle.decimal_floats.specs.Decimals.{IsDecimalThroughout}
+use Rattle.naga_ir.specs.declared.module.Module.{Module}
 use Rattle.naga_refusals.specs.Errors.{TellsOfModule}
 use Rattle.naga_refusals.specs.declared.error.Error.{Error}
 use Rattle.naga_refusals.specs.declared.error.Error.TheVariants.{Memory}
@@ -8,3 +10,8 @@ use Rattle.naga_refusals.specs.declared.error.Error.TheVariants.{Memory}
 abbrev pub IsAnswerOrMemory : (answer told : Result Unit Error) → Type 0
 IsAnswerOrMemory answer told =
     (told ≡ answer) ⊎ (IsErrAnd answer TellsOfModule × (told ≡ Err (Memory alloc_error)))
+
+-- each finite float of the module has a numeral, unless memory was wanting
+abbrev pub IsDecimalUnlessWanting : (answer : Result Unit Error) → Module → Type 0
+IsDecimalUnlessWanting (Err (Memory error)) m = ⊤
+IsDecimalUnlessWanting _ m = IsDecimalThroughout m

@@ -13,12 +13,13 @@ use Rattle.naga_info.specs.declared.info.ModuleInfo.{ModuleInfo}
 use Rattle.naga_ir.specs.declared.module.Module.{Module}
 use Rattle.naga_refusals.specs.declared.error.Error.{Error}
 use Rattle.naga_wgsl_out.specs.Checked.{IsCounted}
-use Rattle.naga_wgsl_out.specs.Writing.{written_text}
+use Rattle.naga_wgsl_out.specs.Within.{IsPastBound}
 use Rattle.naga_wgsl_out.specs.declared.unwritable.Refusal.{Refusal}
 
 -- It is accepted. With its uses counted the writer was asked for it, and what stood in the sink when
 -- it answered is too long: the text, or what its answer leaves of that. So the text is too long that
--- a call appends which writes the module.
+-- a call appends which writes the module, and of a module that is refused what stands in front of
+-- what it is refused for.
 pub record IsTooLong (flags : WriterFlags) (bound : ℕ) (given m : Module)
     (old new : ModuleInfo) : Type 0 where
   pub accepted : IsTrue (is_accepted given old)
@@ -29,7 +30,7 @@ pub record IsTooLong (flags : WriterFlags) (bound : ℕ) (given m : Module)
   pub failures : ℕ
   pub written : AnswersWriting flags m new answer told [] beginning 0 failures
   pub passed : bound < length beginning
-  pub longer : bound < length (written_text m new flags)
+  pub past : IsPastBound flags bound m new
 
 abbrev pub IsUnwritten : WriterFlags → (bound : ℕ) → (given m : Module) →
     (old new : ModuleInfo) → NoOutcome → Type 0

@@ -1,14 +1,16 @@
-//! Answers about a module that was read from JSON: its text, a refusal with its position, and where the
-//! members of its structs stand. Programs and libraries can share it.
+//! Answers about a module that was read from JSON: its text, a refusal with its position, where the
+//! members of its structs stand, and which identifier stands for which item. Programs and libraries can share it.
 #![tactic(auto)]
 
 mod layouts;
+mod names;
 mod refusals;
 mod shaders;
 mod within;
 mod writing;
 
 pub use layouts::layout_table;
+pub use names::{name_as_standard, names_text, names_value};
 pub use refusals::refusal_line;
 pub use shaders::{Shader, Unasked, holder_of, info_within, untyped_line};
 pub use within::{NoOutcome, write_decimal_within, write_within};

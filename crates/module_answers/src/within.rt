@@ -3,12 +3,13 @@
 ghost use Rattle.std.specs.Prelude.{◌≡◌, ◌<◌, ◌≤◌, [], IfErr, IfNone, IfOk, IfSome, IsTrue};
 ghost use Rattle.std.specs.Prelude.{length};
 ghost use Rattle.std.specs.Prelude.{string_bytes};
+ghost use Rattle.module_answers.specs.Wants.{IsDecimalUnlessWanting};
 ghost use Rattle.module_answers.specs.Within.{IsUnwritten};
 ghost use Rattle.module_answers.specs.WriteOutcomes.{AnswersWriting};
 ghost use Rattle.module_semantics.specs.acceptance.Accepted.{is_accepted};
 ghost use Rattle.naga_wgsl_out.specs.Checked.{IsCounted};
 ghost use Rattle.naga_wgsl_out.specs.Within.{unfailed};
-ghost use Rattle.decimal_floats.specs.Decimals.{IsDecimalModule};
+ghost use Rattle.decimal_floats.specs.Decimals.{IsDecimalModule, keeping_digits};
 
 use crate::writing::{WriteOutcome, write, write_decimal};
 use module_limits::BoundedText;
@@ -27,8 +28,7 @@ pub enum NoOutcome {
     #[error("not accepted: {0}")]
     NotAccepted(Unaccepted),
     /// What was written of the module has more bytes than the limit: its text, or of a module that is
-    /// refused what stands in front of what it is refused for. That the last is as long is not proved,
-    /// but of the text with what stands after it.
+    /// refused what stands in front of what it is refused for.
     #[error("text too long")]
     TooLong,
 }
@@ -70,7 +70,9 @@ pub fn write_decimal_within(
     bound: usize,
 ) -> Result<WriteOutcome<String>, NoOutcome>
     ensures accepted { IfOk result (λ _. IsTrue (is_accepted «module».old info.old)) }
-    ensures decimal { IfOk result (λ _. IsDecimalModule «module».old «module».new) }
+    ensures decimal { IfOk result (λ _.
+        IsDecimalModule (keeping_digits «module».old) «module».new) }
+    ensures complete { IfOk result (λ w. IsDecimalUnlessWanting w.answer «module».new) }
     ensures counted { IfOk result (λ _. IsCounted «module».new info.old info.new) }
     ensures written { IfOk result (λ w. AnswersWriting flags «module».new info.new
         w.answer w.refusal [] (string_bytes w.sink) 0 0) }
@@ -78,7 +80,7 @@ pub fn write_decimal_within(
     ensures unwritten { IfErr result (IsUnwritten flags bound «module».old «module».new info.old
         info.new) }
     ensures too_long { IfErr result (λ e. e ≡ NoOutcome.TooLong →
-        IsDecimalModule «module».old «module».new) }
+        IsDecimalModule (keeping_digits «module».old) «module».new) }
 {
     let empty = BoundedText::new(alloc, bound);
     match write_decimal(alloc, module, info, flags, empty) {

@@ -18,7 +18,7 @@ use Rattle.naga_naming.specs.Keys.{NameMap}
 use Rattle.naga_naming.specs.declared.key.NameKey.TheVariants as key
 use Rattle.shader_runs.specs.Resolution.{ConstantTarget, GlobalTarget}
 use Rattle.wgsl_text.specs.Attributes as attributes
-use Rattle.wgsl_text.specs.Attributes.{WorkgroupSize}
+use Rattle.wgsl_text.specs.Attributes.{WorkgroupSize, FixedSize}
 use Rattle.wgsl_text.specs.Declarations.{Program, no_declarations}
 use Rattle.wgsl_text.specs.Functions.{NoResult}
 use Rattle.wgsl_text.specs.Operators.{is_built_in}
@@ -29,7 +29,7 @@ use Rattle.text_semantics.specs.Resolution.{index_among, program_initialiser_tar
 use Rattle.text_semantics.specs.Resolution.{type_items, types_are_not_hidden}
 use Prim.Native.String as native
 use Rattle.text_semantics.specs.Vocabulary.{vocabulary_read}
-use Rattle.module_semantics.specs.DeclaredItems.{handle_items, resolution_items, stage_variables}
+use Rattle.module_semantics.specs.DeclaredItems.{handle_items, resolution_items, stage_meant}
 use Rattle.module_semantics.specs.ExpressionContexts.{expression_context}
 use Rattle.module_semantics.specs.ExpressionOperators.{constructor}
 use Rattle.module_semantics.specs.OperatorTable.{run_word}
@@ -57,7 +57,7 @@ text =
           worked.global [] (worked.space "task_payload") "load" i32 None ∷ [];
       entry_points =
           worked.entry_point
-          (worked.worded_attribute attributes.Mesh "out" ∷ WorkgroupSize 1 1 1 ∷
+          (worked.worded_attribute attributes.Mesh "out" ∷ WorkgroupSize (worked.named_size "depth") (FixedSize 1) (worked.named_size "Q") ∷
           worked.worded_attribute attributes.Payload "load" ∷ [])
           (worked.function "main" [] NoResult [] []) ∷ [];
     }
@@ -103,8 +103,10 @@ no_member = refl
 initialisers : program_initialiser_targets text ≡ (Some (ConstantTarget 0) ∷ []) ∷ [] ∷ [] ∷ []
 initialisers = refl
 
-variables : stage_targets text ≡ (Some (GlobalTarget 0) ∷ Some (GlobalTarget 1) ∷ []) ∷ []
-variables = refl
+-- in the order of the text, and a name that nothing has stands for nothing
+of_stages : stage_targets text ≡
+    (Some (GlobalTarget 0) ∷ Some (ConstantTarget 1) ∷ None ∷ Some (GlobalTarget 1) ∷ []) ∷ []
+of_stages = refl
 
 -- a function hides nothing by an argument, and a struct by one of the struct's name
 abbrev with_argument : native.String → Program
@@ -213,19 +215,25 @@ module _ (other : ir_module.Module) (label : String Global) (members : Vec ir_me
     abbrev point : ir_entry_point.EntryPoint
     point =
         record e {
+          workgroup_size_overrides = None ∷ Some 0 ∷ Some 0 ∷ [];
           mesh_info = Some (record { output_variable = 0 });
           task_payload = Some 1;
           incoming_ray_payload = Some 2;
         }
 
-    mesh_variables : stage_variables point stages.Mesh ≡ 0 ∷ 1 ∷ []
-    mesh_variables = refl
+    -- the override by its number after the constant, twice
+    compute_meant : stage_meant m point stages.Compute ≡ ConstantTarget 1 ∷ ConstantTarget 1 ∷ []
+    compute_meant = refl
 
-    task_variables : stage_variables point stages.Task ≡ 1 ∷ []
-    task_variables = refl
+    mesh_meant : stage_meant m point stages.Mesh ≡
+        GlobalTarget 0 ∷ ConstantTarget 1 ∷ ConstantTarget 1 ∷ GlobalTarget 1 ∷ []
+    mesh_meant = refl
 
-    miss_variables : stage_variables point stages.Miss ≡ 2 ∷ []
-    miss_variables = refl
+    task_meant : stage_meant m point stages.Task ≡ GlobalTarget 1 ∷ ConstantTarget 1 ∷ ConstantTarget 1 ∷ []
+    task_meant = refl
 
-    vertex_variables : stage_variables point stages.Vertex ≡ []
-    vertex_variables = refl
+    miss_meant : stage_meant m point stages.Miss ≡ GlobalTarget 2 ∷ []
+    miss_meant = refl
+
+    vertex_meant : stage_meant m point stages.Vertex ≡ []
+    vertex_meant = refl

@@ -40,7 +40,8 @@ use Rattle.naga_spelling.specs.Spelling.{type_segments}
 use Rattle.shader_runs.specs.Value.{NoParts, Value, Whole, integer_in, same_integer}
 use Rattle.shader_runs.specs.World.{Meaning, Settings, World}
 use Rattle.wgsl_text.specs.Attributes as attributes
-use Rattle.wgsl_text.specs.Attributes.{Attribute, Plain, Numbered, WorkgroupSize}
+use Rattle.wgsl_text.specs.Attributes.{Attribute, Plain, Numbered, WorkgroupSize, SizePart}
+use Rattle.wgsl_text.specs.Attributes.{FixedSize, NamedSize}
 use Rattle.wgsl_text.specs.Declarations as tree
 use Rattle.wgsl_text.specs.Declarations.{Program, no_declarations}
 use Rattle.wgsl_text.specs.Expressions.{Expression}
@@ -77,18 +78,28 @@ is_signed z (Signed x) = same_integer z x
 is_signed z _ = false
 
 -- ---- stages
--- its workgroups have this size along the first axis
-abbrev is_sized : ℕ → Stage → Bool
-is_sized n (ComputeStage size) = option_map_or (λ x. x == n) (slice_get size 0) false
-is_sized n _ = false
+-- its workgroups have this size along an axis, or that of the override of this name
+abbrev is_fixed : ℕ → SizePart → Bool
+is_fixed n (FixedSize x) = x == n
+is_fixed n _ = false
+
+abbrev is_named : List ℕ → SizePart → Bool
+is_named w (NamedSize x) = bytes_eq w x
+is_named w _ = false
+
+abbrev is_sized : (axis : ℕ) → (SizePart → Bool) → Stage → Bool
+is_sized axis test (ComputeStage size) = option_map_or test (slice_get size axis) false
+is_sized axis test _ = false
 
 module _ (e : ir_entry_point.EntryPoint) where
-  -- of this stage, with all that an entry point may have, in workgroups of 8
+  -- of this stage, with all that an entry point may have, in workgroups of 8 by 1, and along the third axis
+  -- by an override
   abbrev of_stage : ShaderStage → ir_entry_point.EntryPoint
   of_stage stage =
       record e {
         stage = stage;
         workgroup_size = 8 ∷ 1 ∷ 1 ∷ [];
+        workgroup_size_overrides = None ∷ None ∷ Some 0 ∷ [];
         mesh_info = Some (record { output_variable = 0 });
         task_payload = Some 1;
         incoming_ray_payload = Some 2;
@@ -96,11 +107,15 @@ module _ (e : ir_entry_point.EntryPoint) where
 
   abbrev variable_names : NameMap
   variable_names (key.GlobalVariable v) = slice_get (codes "out" ∷ codes "load" ∷ codes "hit" ∷ []) v
+  variable_names (key.Override o) = slice_get (codes "deep" ∷ []) o
   variable_names _ = None
 
   -- the attributes say of what stage it is
   abbrev Tell : List Attribute → ir_entry_point.EntryPoint → Type 0
   Tell list p = stage_read list ≡ stage_of variable_names p p.stage
+
+  abbrev of_eight : Attribute
+  of_eight = WorkgroupSize (FixedSize 8) (FixedSize 1) (worked.named_size "deep")
 
   abbrev incoming : Attribute
   incoming = worked.worded_attribute attributes.IncomingPayload "hit"
@@ -112,21 +127,21 @@ module _ (e : ir_entry_point.EntryPoint) where
   fragment_stage : Tell (Plain attributes.Fragment ∷ []) (of_stage stages.Fragment)
   fragment_stage = refl
 
-  compute_stage : Tell (Plain attributes.Compute ∷ WorkgroupSize 8 1 1 ∷ []) (of_stage stages.Compute)
+  compute_stage : Tell (Plain attributes.Compute ∷ of_eight ∷ []) (of_stage stages.Compute)
   compute_stage = refl
 
   mesh_stage : Tell
-      (worked.worded_attribute attributes.Mesh "out" ∷ WorkgroupSize 8 1 1
+      (worked.worded_attribute attributes.Mesh "out" ∷ of_eight
       ∷ worked.worded_attribute attributes.Payload "load" ∷ [])
       (of_stage stages.Mesh)
   mesh_stage = refl
 
-  mesh_stage-without_payload : Tell (worked.worded_attribute attributes.Mesh "out" ∷ WorkgroupSize 8 1 1 ∷ [])
+  mesh_stage-without_payload : Tell (worked.worded_attribute attributes.Mesh "out" ∷ of_eight ∷ [])
       (record (of_stage stages.Mesh) { task_payload = None })
   mesh_stage-without_payload = refl
 
   task_stage : Tell (Plain attributes.Task ∷ worked.worded_attribute attributes.Payload "load"
-      ∷ WorkgroupSize 8 1 1 ∷ [])
+      ∷ of_eight ∷ [])
       (of_stage stages.Task)
   task_stage = refl
 
@@ -151,12 +166,12 @@ module _ (e : ir_entry_point.EntryPoint) where
   puts_out w (MeshStage output payload size) = option_map_or (bytes_eq w) output false
   puts_out w _ = false
 
-  payload_left_out : Tell (worked.worded_attribute attributes.Mesh "out" ∷ WorkgroupSize 8 1 1 ∷ [])
+  payload_left_out : Tell (worked.worded_attribute attributes.Mesh "out" ∷ of_eight ∷ [])
       (of_stage stages.Mesh) → ⊥
   payload_left_out told = differ has_payload _ _ refl refl (sym told)
 
   other_output : Tell
-      (worked.worded_attribute attributes.Mesh "load" ∷ WorkgroupSize 8 1 1
+      (worked.worded_attribute attributes.Mesh "load" ∷ of_eight
       ∷ worked.worded_attribute attributes.Payload "load" ∷ [])
       (of_stage stages.Mesh) → ⊥
   other_output = differ (puts_out (codes "load")) _ _ refl refl
@@ -239,6 +254,7 @@ module _ (other : ir_module.Module) (info : ModuleInfo) (label : String Global)
         record e {
           stage = stages.Vertex;
           workgroup_size = 9 ∷ 9 ∷ 9 ∷ [];
+          workgroup_size_overrides = Some 0 ∷ Some 0 ∷ Some 0 ∷ [];
           function = record f {
             arguments = one f.arguments (argument_of 1 (Some (binding.BuiltIn builtin.VertexIndex)));
             result = Some (record { ty = 5; binding = None });
@@ -252,6 +268,7 @@ module _ (other : ir_module.Module) (info : ModuleInfo) (label : String Global)
         record e {
           stage = stages.Compute;
           workgroup_size = 64 ∷ 1 ∷ 1 ∷ [];
+          workgroup_size_overrides = None ∷ Some 1 ∷ None ∷ [];
           function = record f {
             arguments = one f.arguments (argument_of 1 (Some (binding.BuiltIn builtin.LocalInvocationIndex)));
             result = None;
@@ -352,8 +369,11 @@ module _ (other : ir_module.Module) (info : ModuleInfo) (label : String Global)
         worked.entry_point stage
         (worked.function "main_1" (worked.attributed_parameter grouped "i" u32 ∷ []) NoResult [] [])
 
+    abbrev sized_by : (first second : SizePart) → List Attribute
+    sized_by first second = Plain attributes.Compute ∷ WorkgroupSize first second (FixedSize 1) ∷ []
+
     abbrev sized : ℕ → List Attribute
-    sized n = Plain attributes.Compute ∷ WorkgroupSize n 1 1 ∷ []
+    sized n = sized_by (FixedSize n) (worked.named_size "depth")
 
     abbrev with_number : tree.StructMember → List tree.StructMember
     with_number first = first ∷ worked.member [] "fn_" i32 ∷ []
@@ -602,11 +622,35 @@ module _ (other : ir_module.Module) (info : ModuleInfo) (label : String Global)
 
     other_size : another (record text { entry_points = vertex ∷ compute (sized 32) index ∷ [] })
     unfolding type_segments layout_at
-    other_size = differ (λ i. passes (λ p. is_sized 32 p.stage) 1 i.entry_points) _ _ refl refl
+    other_size = differ (λ i. passes (λ p. is_sized 0 (is_fixed 32) p.stage) 1 i.entry_points) _ _ refl refl
+
+    -- a number where an override sets the size, and another override's name
+    abbrev second_part : (SizePart → Bool) → Interface → Bool
+    second_part test i = passes (λ p. is_sized 1 test p.stage) 1 i.entry_points
+
+    abbrev with_second : SizePart → Program
+    with_second part =
+        record text { entry_points = vertex ∷ compute (sized_by (FixedSize 64) part) index ∷ [] }
+
+    number_for_override : another (with_second (FixedSize 1))
+    unfolding type_segments layout_at
+    number_for_override = differ (second_part (is_fixed 1)) _ _ refl refl
+
+    other_override : another (with_second (worked.named_size "override_type"))
+    unfolding type_segments layout_at
+    other_override = differ (second_part (is_named (codes "override_type"))) _ _ refl refl
+
+    -- the override's name along another axis
+    other_axis : another
+        (record text {
+          entry_points = vertex ∷ compute (sized_by (worked.named_size "depth") (FixedSize 1)) index ∷ [];
+        })
+    unfolding type_segments layout_at
+    other_axis = differ (second_part (is_fixed 1)) _ _ refl refl
 
     other_stage : another (record text { entry_points = vertex ∷ compute (Plain attributes.Vertex ∷ []) index ∷ [] })
     unfolding type_segments layout_at
-    other_stage e = differ (λ i. passes (λ p. is_sized 64 p.stage) 1 i.entry_points) _ _ refl refl (sym e)
+    other_stage e = differ (λ i. passes (λ p. is_sized 0 (is_fixed 64) p.stage) 1 i.entry_points) _ _ refl refl (sym e)
 
     entry_point_left_out : another (record text { entry_points = vertex ∷ [] })
     unfolding type_segments layout_at

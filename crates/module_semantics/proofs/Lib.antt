@@ -13,6 +13,8 @@ pub mod FunctionNumbers
 pub mod StatementRanges
 pub mod InterfaceExamples
 mod LayoutExamples
+pub mod EntryPointRanges
+mod NamedItemExamples
 mod RangeExamples
 pub mod DeclarationForms
 pub mod Layouts

@@ -1,6 +1,6 @@
 -- What the tests of Numbers answer where acceptance asks them, by examples: a number beside the
 -- first that its type has not, and a pattern of four letters beside one of three.
-use Rattle.std.proofs.Common.{◌≡◌, ℕ, ◌^◌, ◌-◌, pos, negsuc, true, false, List, [], ◌∷◌, Option}
+use Rattle.std.proofs.Common.{◌≡◌, ℕ, ◌^◌, ◌-◌, pos, negsuc, Bool, true, false, List, [], ◌∷◌, Option}
 use Rattle.std.proofs.Common.{Some, None, refl, arith, length, Vec, Global}
 use Rattle.naga_ir.specs.StatementTree.{CaseTrees, no_cases, case, no_statements}
 use Rattle.naga_ir.specs.declared.binding.Binding.{Binding}
@@ -166,7 +166,7 @@ module _ (members : Vec StructMember Global) where
   span-of_a_member_after = refl
 
 -- ---- functions and entry points
-module _ (m : Module) (f : Function) (p : EntryPoint) where
+module _ (m : Module) (f : Function) (p : EntryPoint) (o : Override) where
   abbrev taking : (binding answer : Option Binding) → Function
   taking bound answer = record f {
     arguments = one f.arguments (record { name = None; ty = 0; binding = bound });
@@ -182,8 +182,17 @@ module _ (m : Module) (f : Function) (p : EntryPoint) where
   signature-giving_33_bits : signature_fits 1 (taking None (Some (at_location (2 ^ 32) None))) ≡ false
   signature-giving_33_bits = refl
 
+  abbrev sized_by : List (Option ℕ) → List ℕ → EntryPoint
+  sized_by overrides sizes = record p {
+    workgroup_size = sizes;
+    workgroup_size_overrides = overrides;
+    mesh_info = None;
+    task_payload = None;
+    incoming_ray_payload = None;
+  }
+
   abbrev sized : List ℕ → EntryPoint
-  sized sizes = record p { workgroup_size = sizes; mesh_info = None; task_payload = None; incoming_ray_payload = None }
+  sized sizes = sized_by (None ∷ None ∷ None ∷ []) sizes
 
   workgroup : entry_point_in_range m (sized (64 ∷ 1 ∷ 1 ∷ [])) ≡ function_in_range m (length m.functions) p.function
   workgroup = refl
@@ -193,3 +202,18 @@ module _ (m : Module) (f : Function) (p : EntryPoint) where
 
   workgroup-of_33_bits : entry_point_in_range m (sized (2 ^ 32 ∷ 1 ∷ 1 ∷ [])) ≡ false
   workgroup-of_33_bits = refl
+
+  -- of two overrides, the second is there, and no third; the axes are three here too
+  abbrev of_overrides : List (Option ℕ) → Bool
+  of_overrides list =
+      entry_point_in_range (record m { overrides = o ∷ o ∷ [] }) (sized_by list (64 ∷ 1 ∷ 1 ∷ []))
+
+  workgroup-by_an_override : of_overrides (None ∷ Some 1 ∷ None ∷ []) ≡
+      function_in_range (record m { overrides = o ∷ o ∷ [] }) (length m.functions) p.function
+  workgroup-by_an_override = refl
+
+  workgroup-by_no_override : of_overrides (None ∷ None ∷ Some 2 ∷ []) ≡ false
+  workgroup-by_no_override = refl
+
+  workgroup-by_two_axes : of_overrides (None ∷ Some 1 ∷ []) ≡ false
+  workgroup-by_two_axes = refl

@@ -5,8 +5,8 @@
 -- itself, own tells the items of the types that stand before it, e is an entry point, and t a type.
 use Rattle.std.specs.Prelude.{ℕ, zero, suc, List, [], ◌∷◌, ◌++◌, Option, length, map, take}
 use Rattle.std.specs.Prelude.{slice_get}
-use Rattle.std.specs.List.{enumerate_from, filter}
-use Rattle.std.specs.Option.{option_and_then, option_map_or, option_to_list}
+use Rattle.std.specs.List.{enumerate_from, filter, filter_map}
+use Rattle.std.specs.Option.{option_and_then, option_map, option_map_or, option_to_list}
 use Rattle.naga_ir.specs.declared.module.EntryPoint.{EntryPoint}
 use Rattle.naga_ir.specs.declared.module.Module.{Module}
 use Rattle.naga_ir.specs.declared.module.ShaderStage.{ShaderStage}
@@ -69,16 +69,28 @@ module_initialiser_targets m info =
     map (λ o. initialiser_meant m info o.init) m.overrides ++
     map (λ g. initialiser_meant m info g.init) m.global_variables
 
--- the variables that the attributes of an entry point name, in their order
-abbrev pub stage_variables : EntryPoint → ShaderStage → List ℕ
-stage_variables e stage.Mesh =
-    map (λ i. i.output_variable) (option_to_list e.mesh_info) ++ option_to_list e.task_payload
-stage_variables e stage.Task = option_to_list e.task_payload
-stage_variables e stage.AnyHit = option_to_list e.incoming_ray_payload
-stage_variables e stage.ClosestHit = option_to_list e.incoming_ray_payload
-stage_variables e stage.Miss = option_to_list e.incoming_ray_payload
-stage_variables e _ = []
+-- what the attributes of an entry point name, in their order: the variables that its stage has, and
+-- the overrides that set its workgroup's size
+abbrev pub variables_meant : Option ℕ → List Target
+variables_meant v = map GlobalTarget (option_to_list v)
+
+abbrev pub overrides_meant : Module → List (Option ℕ) → List Target
+overrides_meant m overrides =
+    map (λ o. ConstantTarget (override_number m o)) (filter_map (λ o. o) overrides)
+
+abbrev pub sizes_meant : Module → EntryPoint → List Target
+sizes_meant m e = overrides_meant m e.workgroup_size_overrides
+
+abbrev pub stage_meant : Module → EntryPoint → ShaderStage → List Target
+stage_meant m e stage.Compute = sizes_meant m e
+stage_meant m e stage.Mesh =
+    variables_meant (option_map (λ i. i.output_variable) e.mesh_info) ++
+    (sizes_meant m e ++ variables_meant e.task_payload)
+stage_meant m e stage.Task = variables_meant e.task_payload ++ sizes_meant m e
+stage_meant m e stage.AnyHit = variables_meant e.incoming_ray_payload
+stage_meant m e stage.ClosestHit = variables_meant e.incoming_ray_payload
+stage_meant m e stage.Miss = variables_meant e.incoming_ray_payload
+stage_meant m e _ = []
 
 abbrev pub module_stage_targets : Module → List (List Target)
-module_stage_targets m =
-    map (λ e. map GlobalTarget (stage_variables e e.stage)) m.entry_points.items
+module_stage_targets m = map (λ e. stage_meant m e e.stage) m.entry_points.items

@@ -47,6 +47,7 @@ use Rattle.module_semantics.specs.StageBindings.{is_volatile_memory}
 use Rattle.module_semantics.specs.Switches.{block_switches}
 use Rattle.module_semantics.specs.Types.{spelled_type}
 use Rattle.module_semantics.specs.Undeclared.{is_declared}
+use Rattle.module_semantics.specs.WorkgroupSizes.{size_parts}
 
 -- ---- structs
 -- A member of a struct that is concerned is given a size where WGSL's rules alone would have what
@@ -154,12 +155,12 @@ function_interfaces names m g (f ∷ more) =
 abbrev pub stage_of : NameMap → EntryPoint → ShaderStage → Stage
 stage_of names e stage.Vertex = VertexStage
 stage_of names e stage.Fragment = FragmentStage
-stage_of names e stage.Compute = ComputeStage e.workgroup_size
+stage_of names e stage.Compute = ComputeStage (size_parts names e)
 stage_of names e stage.Mesh =
     MeshStage (option_map (λ i. global_name names i.output_variable) e.mesh_info)
-    (option_map (global_name names) e.task_payload) e.workgroup_size
+    (option_map (global_name names) e.task_payload) (size_parts names e)
 stage_of names e stage.Task =
-    TaskStage (option_map (global_name names) e.task_payload) e.workgroup_size
+    TaskStage (option_map (global_name names) e.task_payload) (size_parts names e)
 stage_of names e stage.RayGeneration = RayGenerationStage
 stage_of names e stage.AnyHit = AnyHitStage (option_map (global_name names) e.incoming_ray_payload)
 stage_of names e stage.ClosestHit =

@@ -38,6 +38,7 @@ pub mod TypeIdentity
 pub mod TypeParts
 pub mod Types
 pub mod Undeclared
+pub mod WorkgroupSizes
 pub mod WrittenOut
 pub mod Written
 pub mod acceptance

@@ -28,17 +28,18 @@ use Rattle.wgsl_text.specs.Words.{IsIdentifier}
 abbrev pub reserved_prefixes : List (List ℕ)
 reserved_prefixes = codes "__" ∷ codes "_naga" ∷ []
 
--- no label was named yet, and names keep off both tables of words and these prefixes
-unfoldable pub wgsl_names : Names
-wgsl_names =
+-- No label was named yet, names keep off both tables of words and these prefixes, and they keep
+-- their digits where the module says so.
+unfoldable pub wgsl_names : Module → Names
+wgsl_names m =
     let keywords = set.from_list reserved_words in
     let builtin_identifiers = set.from_list builtin_words in
-    new_names keywords builtin_identifiers set.empty reserved_prefixes
+    new_names keywords builtin_identifiers set.empty reserved_prefixes m.keeps_digits
 
 -- the name of each item, by its key: items are named in their order, each after those before it
 unfoldable pub module_names : Module → NameMap
 module_names m key =
-    update_all same_key (λ _. None) (named_items wgsl_names (labelled_items wgsl_names m)) key
+    update_all same_key (λ _. None) (named_items (wgsl_names m) (labelled_items (wgsl_names m) m)) key
 
 -- an item's name; each item of the module has one
 abbrev pub name_in : NameMap → NameKey → List ℕ
@@ -77,7 +78,7 @@ numbered_name h = numbered_text (nat_lt h (2 ^ 64)) h
 -- ---- the labels of a module, and the names that front ends gave
 -- those of its items, in the order in which they are named
 abbrev pub item_labels : Module → List (List ℕ)
-item_labels m = labels_of (labelled_items wgsl_names m)
+item_labels m = labels_of (labelled_items (wgsl_names m) m)
 
 -- After them come those that front ends gave to expressions, function by function and then entry
 -- point by entry point. These stand in front of the ones given in this function.
@@ -91,7 +92,7 @@ labels_named_in m g = option_map_or expression_labels (slice_get (all_functions 
 -- The names that front ends gave in a function, in the order of its text: each the name of its
 -- label after all labels in front of it.
 unfoldable pub expression_name : Module → (function : ℕ) → (number : ℕ) → List ℕ
-expression_name m g = name_of_label wgsl_names (labels_before m g) (labels_named_in m g)
+expression_name m g = name_of_label (wgsl_names m) (labels_before m g) (labels_named_in m g)
 
 -- ---- other names of these labels
 -- names of labels, by the function's number and the label's in its text
@@ -107,7 +108,7 @@ pub record AreLabelNamesOf (m : Module) (f : ir_function.Function) (named : (lab
   pub distinct : (j k : ℕ) → j < length (expression_labels f) → k < length (expression_labels f) →
       named j ≡ named k → j ≡ k
   pub no_item : (k : ℕ) → k < length (expression_labels f) → (place : ℕ) (item : LabelledItem) →
-      slice_get (labelled_items wgsl_names m) place ≡ Some item → IsFalse (is_member item.0) →
+      slice_get (labelled_items (wgsl_names m) m) place ≡ Some item → IsFalse (is_member item.0) →
       name_in (module_names m) item.0 ≢ named k
   pub not_numbered : (k : ℕ) → k < length (expression_labels f) → (h : ℕ) →
       named k ≢ numbered_name h

@@ -101,7 +101,7 @@ InitialisersResolve m info program =
 
 -- Each name outside of functions and initialisers does.
 pub record ItemsResolve (m : Module) (program : Program) : Type 0 where
-  -- the variables that entry points name: outputs of meshes and payloads
+  -- what entry points name: outputs of meshes, payloads, and what sets a workgroup's size
   pub stages : stage_targets program ≡ map (map Some) (module_stage_targets m)
   -- what types name
   pub types : TypesResolve m program

@@ -4,6 +4,7 @@ pub mod AgreeingOperators
 pub mod ExpressionTypes
 pub mod InfoSizes
 pub mod Initialisers
+pub mod NamedItems
 pub mod Numbers
 pub mod OperandDemands
 pub mod Operations

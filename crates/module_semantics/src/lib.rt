@@ -6,6 +6,8 @@
 
 mod called;
 pub mod extensions;
+pub mod named;
 pub mod type_parts;
 
 pub use called::called_str;
+pub use named::ListName;

@@ -10,7 +10,6 @@ use Rattle.std.specs.Option.{IfSome, is_some, option_map, option_or}
 use Rattle.std.specs.Result.{result_err}
 use Rattle.naga_ir.specs.Operands.{expression_operands}
 use Rattle.naga_ir.specs.declared.expression.Expression.{Expression}
-use Rattle.naga_ir.specs.declared.expression.Expression.TheVariants as expression
 use Rattle.naga_ir.specs.declared.module.EntryPoint.{EntryPoint}
 use Rattle.naga_ir.specs.declared.module.Function.{Function}
 use Rattle.naga_ir.specs.declared.module.Module.{Module}
@@ -26,7 +25,7 @@ use Rattle.naga_acceptance.specs.FirstFaults.{first_known_fault, first_unknown}
 use Rattle.naga_acceptance.specs.FirstFaults.{function_range_fault, function_sizes_fault}
 use Rattle.naga_acceptance.specs.FirstFaults.{functions_range_fault, global_expression_range_fault}
 use Rattle.naga_acceptance.specs.FirstFaults.{info_fault, items_range_fault, known_fault}
-use Rattle.naga_acceptance.specs.FirstFaults.{module_range_fault, names_fault, ranges_fault}
+use Rattle.naga_acceptance.specs.FirstFaults.{module_range_fault, ranges_fault}
 use Rattle.naga_acceptance.specs.FirstFaults.{sizes_fault, sound_fault, types_range_fault}
 use Rattle.naga_acceptance.specs.Searching.{first_faulty, first_unfit, or_further, unless}
 use Rattle.naga_acceptance.specs.TextOrder.{is_in_range, numbered, text_order}
@@ -40,7 +39,8 @@ use Rattle.module_semantics.specs.acceptance.InfoSizes.{entry_point_size_fits, f
 use Rattle.module_semantics.specs.acceptance.InfoSizes.{type_is_fit}
 use Rattle.module_semantics.specs.acceptance.Ranges.{all_below, constant_in_range, global_in_range}
 use Rattle.module_semantics.specs.acceptance.Ranges.{initialiser_before, local_in_range}
-use Rattle.module_semantics.specs.acceptance.Ranges.{module_ranges_fit, names_fit, names_in_range}
+use Rattle.module_semantics.specs.acceptance.NamedItems.{names_there}
+use Rattle.module_semantics.specs.acceptance.Ranges.{module_ranges_fit, names_fit, own_numbers_fit}
 use Rattle.module_semantics.specs.acceptance.Ranges.{numbers_in_range, override_in_range}
 use Rattle.module_semantics.specs.acceptance.Ranges.{parts_before, resolution_fits, signature_fits}
 use Rattle.module_semantics.specs.acceptance.Ranges.{special_types_fit}
@@ -93,17 +93,16 @@ PartIsOther found = IsOther found.1
 abbrev ItemIsOther : Unaccepted → Type 0
 ItemIsOther u = IsOther u.fault
 
-names_other : (e : Expression) → IsOther (names_fault e)
-names_other (expression.Literal value) typed = typed
-names_other _ typed = typed
-
 module _ (m : Module) where
   expression_other : (arguments locals h : ℕ) (e : Expression) →
       IfSome (expression_range_fault m arguments locals h e) IsOther
   expression_other arguments locals h e =
       of_unless IsOther (all_below h (expression_operands e)) fault.Operands
-      (unless (names_in_range m arguments locals e) (names_fault e) None) (λ typed. typed)
-      (of_unless IsOther (names_in_range m arguments locals e) (names_fault e) None (names_other e) tt)
+      (unless (own_numbers_fit e) fault.Numeral (unless (names_there m arguments locals e) fault.Names None))
+      (λ typed. typed)
+      (of_unless IsOther (own_numbers_fit e) fault.Numeral (unless (names_there m arguments locals e) fault.Names None)
+      (λ typed. typed)
+      (of_unless IsOther (names_there m arguments locals e) fault.Names None (λ typed. typed) tt))
 
   global_other : (h : ℕ) (e : Expression) → IfSome (global_expression_range_fault m h e) IsOther
   global_other h e =

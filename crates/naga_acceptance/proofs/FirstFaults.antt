@@ -7,6 +7,7 @@ use Rattle.std.proofs.Common.{true≢false}
 use Rattle.std.specs.Option.{IfSome, is_none, is_some, option_map, option_map_or}
 use Rattle.std.specs.Result.{result_err}
 use Rattle.std.specs.List.{list_all, enumerate_from, zip}
+use Rattle.std.proofs.Math.Bool.{and-true}
 use Rattle.std.proofs.lemmas.Bool.{and_left, and_right, eqb-true}
 use Rattle.std.proofs.lemmas.List.{length-map}
 use Rattle.std.proofs.lemmas.Option.{slice_get-map}
@@ -21,7 +22,6 @@ use Rattle.naga_info.specs.declared.info.ModuleInfo.{ModuleInfo}
 use Rattle.naga_info.specs.declared.info.TypeResolution.{TypeResolution}
 use Rattle.naga_acceptance.specs.Faults.{EntryPositionFails, ExpressionFails, Fails}
 use Rattle.naga_acceptance.specs.Faults.{FunctionPositionFails, Unfit, entry_names_fit, known_of}
-use Rattle.naga_acceptance.specs.Faults.{names_there, numeral_fits}
 use Rattle.naga_acceptance.specs.FirstFaults.{at, at_entry_point, at_expression, at_function}
 use Rattle.naga_acceptance.specs.FirstFaults.{declarations_range_fault, declarations_sound_fault}
 use Rattle.naga_acceptance.specs.FirstFaults.{entry_point_range_fault, entry_point_sizes_fault}
@@ -33,7 +33,7 @@ use Rattle.naga_acceptance.specs.FirstFaults.{function_sizes_fault, function_sou
 use Rattle.naga_acceptance.specs.FirstFaults.{functions_range_fault, functions_sound_fault}
 use Rattle.naga_acceptance.specs.FirstFaults.{global_expression_range_fault, info_fault}
 use Rattle.naga_acceptance.specs.FirstFaults.{initialisers_fault, items_range_fault, known_fault}
-use Rattle.naga_acceptance.specs.FirstFaults.{module_range_fault, names_fault, ranges_fault}
+use Rattle.naga_acceptance.specs.FirstFaults.{module_range_fault, ranges_fault}
 use Rattle.naga_acceptance.specs.FirstFaults.{sizes_fault, sound_fault, types_range_fault}
 use Rattle.naga_acceptance.specs.Searching.{first_faulty, first_unfit}
 use Rattle.naga_acceptance.specs.TextOrder.{is_in_range, is_sound, numbered, text_order}
@@ -52,14 +52,18 @@ use Rattle.module_semantics.specs.acceptance.Initialisers.{constant_is_sound, gl
 use Rattle.module_semantics.specs.acceptance.Initialisers.{initialisers_fit, local_is_sound}
 use Rattle.module_semantics.specs.acceptance.Initialisers.{override_is_sound}
 use Rattle.module_semantics.specs.acceptance.OperandDemands.{operands_fit}
-use Rattle.module_semantics.specs.acceptance.Numbers.{workgroup_fits_32_bits}
+use Rattle.module_semantics.specs.Literals.{literal_is_within}
+use Rattle.module_semantics.specs.acceptance.NamedItems.{names_there}
+use Rattle.module_semantics.specs.acceptance.Numbers.{fits_32_bits, pattern_is_whole, workgroup_fits_32_bits}
 use Rattle.module_semantics.specs.acceptance.Ranges.{all_below, block_in_range, constant_in_range}
 use Rattle.module_semantics.specs.acceptance.Ranges.{declarations_in_range, entry_point_in_range}
+use Rattle.module_semantics.specs.acceptance.Ranges.{size_overrides_fit}
 use Rattle.module_semantics.specs.acceptance.Ranges.{expression_in_range, expressions_in_range}
 use Rattle.module_semantics.specs.acceptance.Ranges.{function_in_range, global_expression_in_range}
 use Rattle.module_semantics.specs.acceptance.Ranges.{global_in_range, initialiser_before}
 use Rattle.module_semantics.specs.acceptance.Ranges.{local_in_range, is_below, module_in_range}
 use Rattle.module_semantics.specs.acceptance.Ranges.{module_ranges_fit, names_fit, names_in_range}
+use Rattle.module_semantics.specs.acceptance.Ranges.{own_numbers_fit}
 use Rattle.module_semantics.specs.acceptance.Ranges.{numbers_in_range, override_in_range}
 use Rattle.module_semantics.specs.acceptance.Ranges.{parts_before, resolution_fits, signature_fits}
 use Rattle.module_semantics.specs.acceptance.Ranges.{special_types_fit, types_in_range}
@@ -97,22 +101,23 @@ all_both a b n (x ∷ xs) =
 
 -- ---- what is named: parts of functions
 
+-- an expression that names an item has no numbers of its own
+numbers_and_names : (m : Module) (arguments locals : ℕ) (e : Expression) →
+    (own_numbers_fit e && names_there m arguments locals e) ≡ names_in_range m arguments locals e
+numbers_and_names m arguments locals (expression.Literal value) = and-true (literal_is_within value)
+numbers_and_names m arguments locals (expression.AccessIndex base index) = and-true (fits_32_bits index)
+numbers_and_names m arguments locals (expression.Swizzle count vector pattern) = and-true (pattern_is_whole pattern)
+numbers_and_names m arguments locals _ = refl
+
 expression_range : (m : Module) (arguments locals h : ℕ) (e : Expression) (P : Fault → Type 0) →
     (all_below h (expression_operands e) ≡ false → P fault.Operands) →
-    (names_in_range m arguments locals e ≡ false → P (names_fault e)) →
+    (own_numbers_fit e ≡ false → P fault.Numeral) → (names_there m arguments locals e ≡ false → P fault.Names) →
     Finds (expression_range_fault m arguments locals h e) (expression_in_range m arguments locals h e) P
-expression_range m arguments locals h e P operands names =
+expression_range m arguments locals h e P operands numbers names =
     finds_unless (all_below h (expression_operands e)) fault.Operands operands
-    (λ _. finds_test (names_in_range m arguments locals e) (names_fault e) names)
-
--- a literal fails by its numeral, and any other expression by what it names
-names_fail : (m : Module) (arguments locals h : ℕ) (es : List Expression) (e : Expression) (P : Fault → Type 0) →
-    (Unfit (names_there m arguments locals) es h → P fault.Names) → (Unfit numeral_fits es h → P fault.Numeral) →
-    slice_get es h ≡ Some e → names_in_range m arguments locals e ≡ false → P (names_fault e)
-names_fail m arguments locals h es (expression.Literal value) P names numeral here fails =
-    numeral (unfit_at numeral_fits es h (expression.Literal value) here fails)
-names_fail m arguments locals h es e P names numeral here fails =
-    names (unfit_at (names_there m arguments locals) es h e here fails)
+    (λ _. finds_same (numbers_and_names m arguments locals e)
+    (finds_unless (own_numbers_fit e) fault.Numeral numbers
+    (λ _. finds_test (names_there m arguments locals e) fault.Names names)))
 
 module _ (m : Module) (callees : ℕ) (f : Function) (known : List TypeResolution) where
   abbrev RangePosition : FunctionPosition × Fault → Type 0
@@ -139,8 +144,9 @@ module _ (m : Module) (callees : ℕ) (f : Function) (known : List TypeResolutio
       (λ h e here. expression_range m (length f.arguments.items) (length f.local_variables) h e
       (λ kind. ExpressionFails m f known h kind)
       (λ fails. unfit_at (λ x. all_below h (expression_operands x)) f.expressions h e here fails)
-      (λ fails. names_fail m (length f.arguments.items) (length f.local_variables) h f.expressions e
-      (λ kind. ExpressionFails m f known h kind) (λ unfit. unfit) (λ unfit. unfit) here fails)))
+      (λ fails. unfit_at own_numbers_fit f.expressions h e here fails)
+      (λ fails. unfit_at (names_there m (length f.arguments.items) (length f.local_variables)) f.expressions h e
+      here fails)))
 
   statements_found : Finds (result_err (numbered (is_in_range callees (length f.expressions)) 0 (text_order f.body)))
       (block_in_range callees (length f.expressions) f.body)
@@ -225,8 +231,8 @@ module _ (m : Module) (info : ModuleInfo) where
       finds_or _ _
       (expression_range m 0 0 h e (λ kind. GlobalAt (h, kind))
       (λ fails. unfit_at (λ x. all_below h (expression_operands x)) m.global_expressions h e here fails)
-      (λ fails. names_fail m 0 0 h m.global_expressions e (λ kind. GlobalAt (h, kind)) (λ unfit. unfit)
-      (λ unfit. unfit) here fails))
+      (λ fails. unfit_at own_numbers_fit m.global_expressions h e here fails)
+      (λ fails. unfit_at (names_there m 0 0) m.global_expressions h e here fails))
       (λ _. finds_test (initialiser_before m h e) fault.LaterInitialiser
       (λ fails. unfit_at (initialiser_before m h) m.global_expressions h e here fails))
 
@@ -306,11 +312,12 @@ module _ (m : Module) (info : ModuleInfo) where
       (function_in_range m) (function_range_fault m) m.functions
       (λ h f here. function_range m h f (known_of info.functions.items h))))
 
-  entry_regroup : (a b c d e : Bool) → (a && (b && (c && d))) && e ≡ a && (b && (c && (d && e)))
-  entry_regroup true true true d e = refl
-  entry_regroup true true false d e = refl
-  entry_regroup true false c d e = refl
-  entry_regroup false b c d e = refl
+  entry_regroup : (a b c d e f : Bool) → (a && (b && (c && (d && e)))) && f ≡ a && (b && (c && (d && (e && f))))
+  entry_regroup true true true true e f = refl
+  entry_regroup true true true false e f = refl
+  entry_regroup true true false d e f = refl
+  entry_regroup true false c d e f = refl
+  entry_regroup false b c d e f = refl
 
   entry_range : (p : EntryPoint) (known : List TypeResolution) →
       Finds (entry_point_range_fault m p) (entry_point_in_range m p)
@@ -319,7 +326,7 @@ module _ (m : Module) (info : ModuleInfo) where
       finds_same (entry_regroup (is_below (length m.global_variables) (option_map (λ k. k.output_variable) p.mesh_info))
       (is_below (length m.global_variables) p.task_payload)
       (is_below (length m.global_variables) p.incoming_ray_payload)
-      (workgroup_fits_32_bits p.workgroup_size) (function_in_range m (length m.functions) p.function))
+      (size_overrides_fit m p) (workgroup_fits_32_bits p) (function_in_range m (length m.functions) p.function))
       (finds_unless (entry_names_fit m p) (part.Whole, fault.Names) (λ fails. fails)
       (λ _. finds_weaker (function_range_fault m (length m.functions) p.function)
       (λ found fails. entry_part p known found.0 found.1 fails)

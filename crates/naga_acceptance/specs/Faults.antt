@@ -12,7 +12,6 @@ use Rattle.std.specs.Prelude.{length, map, slice_get, Option, Some, None}
 use Rattle.std.specs.Option.{option_map, option_map_or}
 use Rattle.naga_ir.specs.Operands.{expression_operands}
 use Rattle.naga_ir.specs.declared.expression.Expression.{Expression}
-use Rattle.naga_ir.specs.declared.expression.Expression.TheVariants as expression
 use Rattle.naga_ir.specs.declared.module.EntryPoint.{EntryPoint}
 use Rattle.naga_ir.specs.declared.module.Function.{Function}
 use Rattle.naga_ir.specs.declared.module.Module.{Module}
@@ -34,18 +33,18 @@ use Rattle.module_semantics.specs.acceptance.InfoSizes.{type_is_fit}
 use Rattle.module_semantics.specs.acceptance.Initialisers.{constant_is_sound, global_is_sound}
 use Rattle.module_semantics.specs.acceptance.Initialisers.{local_is_sound}
 use Rattle.module_semantics.specs.acceptance.Initialisers.{override_is_sound}
-use Rattle.module_semantics.specs.Literals.{literal_is_within}
+use Rattle.module_semantics.specs.acceptance.NamedItems.{names_there}
 use Rattle.module_semantics.specs.acceptance.OperandDemands.{operands_fit}
 use Rattle.module_semantics.specs.acceptance.Operations.{all_agree}
 use Rattle.module_semantics.specs.acceptance.Ranges.{all_below, constant_in_range, global_in_range}
 use Rattle.module_semantics.specs.acceptance.Numbers.{workgroup_fits_32_bits}
 use Rattle.module_semantics.specs.acceptance.Ranges.{initialiser_before, is_below, local_in_range}
 use Rattle.module_semantics.specs.acceptance.Ranges.{names_fit}
-use Rattle.module_semantics.specs.acceptance.Ranges.{names_in_range, numbers_in_range}
+use Rattle.module_semantics.specs.acceptance.Ranges.{numbers_in_range, own_numbers_fit}
 use Rattle.module_semantics.specs.acceptance.Ranges.{override_in_range}
 use Rattle.module_semantics.specs.acceptance.Ranges.{parts_before}
 use Rattle.module_semantics.specs.acceptance.Ranges.{resolution_fits, signature_fits}
-use Rattle.module_semantics.specs.acceptance.Ranges.{special_types_fit}
+use Rattle.module_semantics.specs.acceptance.Ranges.{size_overrides_fit, special_types_fit}
 
 -- ---- items
 
@@ -64,26 +63,16 @@ counts_fit m info =
     (length m.entry_points.items == length info.entry_points.items &&
     length m.global_expressions == length info.const_expression_types.items)
 
--- the variables that an entry point names lie in the globals, and its workgroup's sizes have 32
--- bits
+-- the variables that an entry point names lie in the globals, the overrides that set its
+-- workgroup's size in the overrides, and the sizes have 32 bits
 abbrev pub entry_names_fit : Module → EntryPoint → Bool
 entry_names_fit m p =
     is_below (length m.global_variables) (option_map (λ k. k.output_variable) p.mesh_info) &&
     (is_below (length m.global_variables) p.task_payload &&
     (is_below (length m.global_variables) p.incoming_ray_payload &&
-    workgroup_fits_32_bits p.workgroup_size))
+    (size_overrides_fit m p && workgroup_fits_32_bits p)))
 
 -- ---- functions
-
--- what an expression names beside its operands is there; a literal names nothing
-abbrev pub names_there : Module → (arguments locals : ℕ) → Expression → Bool
-names_there m arguments locals (expression.Literal value) = true
-names_there m arguments locals e = names_in_range m arguments locals e
-
--- the number of a literal is one of its type; what is no literal has none
-abbrev pub numeral_fits : Expression → Bool
-numeral_fits (expression.Literal value) = literal_is_within value
-numeral_fits _ = true
 
 abbrev pub LocalFails : Module → Function → (known : List TypeResolution) → (h : ℕ) → Fault → Type 0
 LocalFails m f known h fault.Names =
@@ -99,7 +88,7 @@ ExpressionFails m f known h fault.Operands =
 ExpressionFails m f known h fault.Names =
     Unfit (names_there m (length f.arguments.items) (length f.local_variables))
     f.expressions h
-ExpressionFails m f known h fault.Numeral = Unfit numeral_fits f.expressions h
+ExpressionFails m f known h fault.Numeral = Unfit own_numbers_fit f.expressions h
 ExpressionFails m f known h fault.KnownType =
     Unfit (resolution_fits (length m.overrides) (length m.types)) known h
 ExpressionFails m f known h fault.OtherType =
@@ -208,7 +197,7 @@ GlobalExpressionFails m info h fault.Operands =
     Unfit (λ e. all_below h (expression_operands e)) m.global_expressions h
 GlobalExpressionFails m info h fault.Names =
     Unfit (names_there m 0 0) m.global_expressions h
-GlobalExpressionFails m info h fault.Numeral = Unfit numeral_fits m.global_expressions h
+GlobalExpressionFails m info h fault.Numeral = Unfit own_numbers_fit m.global_expressions h
 GlobalExpressionFails m info h fault.LaterInitialiser =
     Unfit (initialiser_before m h) m.global_expressions h
 GlobalExpressionFails m info h fault.KnownType =

@@ -17,7 +17,6 @@ use Rattle.std.specs.Option.{option_map, option_or}
 use Rattle.std.specs.Result.{result_err}
 use Rattle.naga_ir.specs.Operands.{expression_operands}
 use Rattle.naga_ir.specs.declared.expression.Expression.{Expression}
-use Rattle.naga_ir.specs.declared.expression.Expression.TheVariants as expression
 use Rattle.naga_ir.specs.declared.module.EntryPoint.{EntryPoint}
 use Rattle.naga_ir.specs.declared.module.Function.{Function}
 use Rattle.naga_ir.specs.declared.module.Module.{Module}
@@ -40,11 +39,12 @@ use Rattle.module_semantics.specs.acceptance.InfoSizes.{type_is_fit}
 use Rattle.module_semantics.specs.acceptance.Initialisers.{constant_is_sound, global_is_sound}
 use Rattle.module_semantics.specs.acceptance.Initialisers.{local_is_sound}
 use Rattle.module_semantics.specs.acceptance.Initialisers.{override_is_sound}
+use Rattle.module_semantics.specs.acceptance.NamedItems.{names_there}
 use Rattle.module_semantics.specs.acceptance.OperandDemands.{operands_fit}
 use Rattle.module_semantics.specs.acceptance.Ranges.{all_below, constant_in_range, global_in_range}
 use Rattle.module_semantics.specs.acceptance.Ranges.{initialiser_before, local_in_range}
 use Rattle.module_semantics.specs.acceptance.Ranges.{module_ranges_fit, names_fit}
-use Rattle.module_semantics.specs.acceptance.Ranges.{names_in_range, numbers_in_range}
+use Rattle.module_semantics.specs.acceptance.Ranges.{numbers_in_range, own_numbers_fit}
 use Rattle.module_semantics.specs.acceptance.Ranges.{override_in_range}
 use Rattle.module_semantics.specs.acceptance.Ranges.{parts_before}
 use Rattle.module_semantics.specs.acceptance.Ranges.{resolution_fits, signature_fits}
@@ -67,16 +67,12 @@ at_expression found = (part.Expression found.0, found.1)
 
 -- ---- what is named
 
--- the fault of an expression that names what is not there; a literal's numeral is out of range then
-abbrev pub names_fault : Expression → Fault
-names_fault (expression.Literal value) = fault.Numeral
-names_fault _ = fault.Names
-
 abbrev pub expression_range_fault :
     Module → (arguments locals : ℕ) → (h : ℕ) → Expression → Option Fault
 expression_range_fault m arguments locals h e =
     unless (all_below h (expression_operands e)) fault.Operands
-    (unless (names_in_range m arguments locals e) (names_fault e) None)
+    (unless (own_numbers_fit e) fault.Numeral
+    (unless (names_there m arguments locals e) fault.Names None))
 
 abbrev pub global_expression_range_fault : Module → (h : ℕ) → Expression → Option Fault
 global_expression_range_fault m h e =

@@ -60,7 +60,8 @@ pub enum Fault {
     /// variable, the variables of an entry point, what an expression names beside its operands, or
     /// what a statement names.
     Names,
-    /// The numeral of a literal is out of range, or denotes an infinity.
+    /// The numeral of a literal is out of range, or denotes an infinity. (A number of another
+    /// expression always is one of its type.)
     Numeral,
     /// The type of an argument or of the result is not there.
     Signature,

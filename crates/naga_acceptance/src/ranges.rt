@@ -290,8 +290,16 @@ fn functions_range_fault(module: &Module) -> Option<Unaccepted>
     None
 }
 
-/// Whether the variables that an entry point names are there, and its workgroup's sizes have 32
-/// bits.
+/// Whether the overrides that set the size of workgroups lie below the bound. Nothing is asked of
+/// their types.
+fn size_overrides_fit(bound: usize, overrides: &[Option<Handle<Override>>]) -> bool
+    ensures { result ≡ list_all (is_below bound) overrides.now }
+{
+    overrides.iter().all(|handle| is_below(bound, *handle))
+}
+
+/// Whether the variables and the overrides that an entry point names are there, and its workgroup's
+/// sizes have 32 bits.
 fn entry_names_fit(module: &Module, entry_point: &EntryPoint) -> bool
     ensures { result ≡ entry_names_fit «module».now entry_point.now }
 {
@@ -303,7 +311,14 @@ fn entry_names_fit(module: &Module, entry_point: &EntryPoint) -> bool
     is_below(globals, output_variable)
         && is_below(globals, entry_point.task_payload)
         && is_below(globals, entry_point.incoming_ray_payload)
-        && workgroup_fits_32_bits(entry_point.workgroup_size)
+        && size_overrides_fit(
+            module.overrides.len(),
+            &entry_point.workgroup_size_overrides,
+        )
+        && workgroup_fits_32_bits(
+            entry_point.workgroup_size,
+            &entry_point.workgroup_size_overrides,
+        )
 }
 
 /// The first part of an entry point that names what is not there. It may call each function.

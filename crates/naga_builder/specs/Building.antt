@@ -257,7 +257,8 @@ pub record AddsEntryPoint (b : BuiltFunction) (label : List ℕ) (stage : Shader
   pub labelled : string_bytes entry_point_added.name ≡ label
   pub stage_is : entry_point_added.stage ≡ stage
   pub size : entry_point_added.workgroup_size ≡ workgroup_size
-  pub size_overrides :
+  -- of an array of three, which it is
+  pub size_overrides : length parts.workgroup_size_overrides ≡ 3 →
       entry_point_added.workgroup_size_overrides ≡ parts.workgroup_size_overrides
   pub function : entry_point_added.function ≡ function_of b
   pub mesh : entry_point_added.mesh_info ≡ parts.mesh_info

@@ -331,13 +331,14 @@ impl ModuleBuilder {
         self.info.entry_points.reserve(1)?;
         self.module.entry_points.reserve(1)?;
         let (function, expressions) = function.into_parts();
+        let [x, y, z] = parts.workgroup_size_overrides;
         self.module
             .entry_points
             .push(EntryPoint {
                 name,
                 stage,
                 workgroup_size,
-                workgroup_size_overrides: parts.workgroup_size_overrides,
+                workgroup_size_overrides: [x, y, z],
                 function,
                 mesh_info: parts.mesh_info,
                 task_payload: parts.task_payload,

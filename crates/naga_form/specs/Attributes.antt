@@ -26,10 +26,11 @@ use Rattle.wgsl_text.specs.Attributes.{Attribute, Plain, Numbered, Worded, Inter
 use Rattle.wgsl_text.specs.Attributes.{WorkgroupSize, Invariant, PerPrimitive, Coherent, Volatile}
 use Rattle.wgsl_text.specs.Attributes.{Vertex, Fragment, Compute, Task, RayGeneration, AnyHit}
 use Rattle.wgsl_text.specs.Attributes.{ClosestHit, Miss, BlendSource, Id, Group, Size, Builtin}
-use Rattle.wgsl_text.specs.Attributes.{Interpolate, Mesh, Payload, IncomingPayload}
+use Rattle.wgsl_text.specs.Attributes.{Interpolate, Mesh, Payload, IncomingPayload, SizePart}
 use Rattle.wgsl_text.specs.Attributes as attribute
 use Rattle.module_semantics.specs.Names.{global_name}
 use Rattle.module_semantics.specs.StageBindings.{is_coherent_memory, is_invariant, is_volatile_memory}
+use Rattle.module_semantics.specs.WorkgroupSizes.{size_parts}
 
 -- this attribute, where a test passes, and one for what is there
 abbrev pub attribute_if : Attribute → Bool → List Attribute
@@ -104,7 +105,7 @@ global_attributes g =
     resource_attributes g.binding ++ decoration_attributes g.memory_decorations
 
 -- ---- entry points
-abbrev pub size_attributes : List ℕ → List Attribute
+abbrev pub size_attributes : List SizePart → List Attribute
 size_attributes (x ∷ y ∷ z ∷ []) = WorkgroupSize x y z ∷ []
 size_attributes _ = []
 
@@ -118,12 +119,12 @@ incoming_attributes names e =
 abbrev pub stage_attributes : NameMap → EntryPoint → ShaderStage → List Attribute
 stage_attributes names e stage.Vertex = Plain Vertex ∷ []
 stage_attributes names e stage.Fragment = Plain Fragment ∷ []
-stage_attributes names e stage.Compute = Plain Compute ∷ size_attributes e.workgroup_size
+stage_attributes names e stage.Compute = Plain Compute ∷ size_attributes (size_parts names e)
 stage_attributes names e stage.Mesh =
     attribute_of (λ i. Worded Mesh (global_name names i.output_variable)) e.mesh_info ++
-    (size_attributes e.workgroup_size ++ payload_attributes names e)
+    (size_attributes (size_parts names e) ++ payload_attributes names e)
 stage_attributes names e stage.Task =
-    Plain Task ∷ (payload_attributes names e ++ size_attributes e.workgroup_size)
+    Plain Task ∷ (payload_attributes names e ++ size_attributes (size_parts names e))
 stage_attributes names e stage.RayGeneration = Plain RayGeneration ∷ []
 stage_attributes names e stage.AnyHit = Plain AnyHit ∷ incoming_attributes names e
 stage_attributes names e stage.ClosestHit = Plain ClosestHit ∷ incoming_attributes names e

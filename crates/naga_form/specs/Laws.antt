@@ -103,14 +103,14 @@ NamesAfterAreLabelNames =
     (m : Module) (number : ℕ) (later : List (List ℕ)) →
     AreLabelNames m
     (named_apart m number
-    (name_of_label wgsl_names (item_labels m ++ later) (labels_named_in m number)))
+    (name_of_label (wgsl_names m) (item_labels m ++ later) (labels_named_in m number)))
 
 -- and where those of each are named so, each after others of its own
 abbrev pub NamesOfEachAreLabelNames : Type 0
 NamesOfEachAreLabelNames =
     (m : Module) (later : (number : ℕ) → List (List ℕ)) →
     AreLabelNames m
-    (λ number. name_of_label wgsl_names (item_labels m ++ later number) (labels_named_in m number))
+    (λ number. name_of_label (wgsl_names m) (item_labels m ++ later number) (labels_named_in m number))
 
 -- the program is one of the grammar, so that its text has one reading
 abbrev pub IsAProgram : Type 0

@@ -18,6 +18,7 @@ use crate::shape::{
     fill_untold, in_item, in_member, item_of, items_of, member, members_of, mistyped,
     optional_member, untold_member, word,
 };
+use crate::sizes::{expect_size_expressions, fill_size_overrides};
 use indexmap::IndexMap;
 use json::Value;
 use naga_ir::{
@@ -184,7 +185,8 @@ impl FromJson for MeshStageInfo {
     }
 }
 
-/// The members of [`EntryPoint`], and the two that say what it has no place for.
+/// The members of [`EntryPoint`], and the one that says what it has no place for. The overrides of a
+/// workgroup's size are read once the module's expressions are there.
 const ENTRY_POINT_MEMBERS: &[&str] = &[
     "name",
     "stage",
@@ -203,13 +205,7 @@ impl FromJsonUntold for EntryPoint {
         if let Some(test) = payload.get("early_depth_test") {
             in_member(alloc, "early_depth_test", expect_null(alloc, test))?;
         }
-        if let Some(sizes) = payload.get("workgroup_size_overrides") {
-            in_member(
-                alloc,
-                "workgroup_size_overrides",
-                expect_no_overrides(alloc, sizes),
-            )?;
-        }
+        expect_size_expressions(alloc, payload)?;
         Ok(EntryPoint {
             name: member(alloc, payload, "name")?,
             stage: member(alloc, payload, "stage")?,
@@ -220,21 +216,6 @@ impl FromJsonUntold for EntryPoint {
             task_payload: optional_member(alloc, payload, "task_payload")?,
             incoming_ray_payload: optional_member(alloc, payload, "incoming_ray_payload")?,
         })
-    }
-}
-
-/// Refuses a workgroup's size of which an override sets some part.
-fn expect_no_overrides(alloc: Global, value: &Value) -> Result<(), ReadError> {
-    let Value::Array(items) = value else {
-        return expect_null(alloc, value);
-    };
-    match items.as_slice() {
-        [x, y, z] => {
-            in_item(alloc, 0, expect_null(alloc, x))?;
-            in_item(alloc, 1, expect_null(alloc, y))?;
-            in_item(alloc, 2, expect_null(alloc, z))
-        }
-        _ => Err(ReadError::at(alloc, Problem::WrongLength(3))),
     }
 }
 
@@ -469,5 +450,6 @@ fn fill_module(alloc: Global, value: &Value, module: &mut Module) -> Result<(), 
         &mut module.global_expressions,
     )?;
     fill_untold(alloc, value, "functions", &mut module.functions)?;
-    fill_untold(alloc, value, "entry_points", &mut module.entry_points)
+    fill_untold(alloc, value, "entry_points", &mut module.entry_points)?;
+    fill_size_overrides(alloc, value, module)
 }

@@ -62,8 +62,8 @@ pub enum Problem {
     /// It is an object with a member of this name, which is none of those that are read or let be
     /// there. The name is told as an unknown one is.
     UnknownMember(String),
-    /// It is not null, and says what modules here have no room for, as a workgroup size that an
-    /// override sets.
+    /// It is not null, and says what modules here have no room for, as an early depth test, or a
+    /// workgroup's size that a sum sets.
     Unsupported,
     /// It is an object with members, of which the info that is wanted has none.
     NoKnownMember,

@@ -7,9 +7,9 @@
 //!   list, arena, map or block of a module, a function or an info is empty, and so are `reject`,
 //!   `continuing` and `memory_decorations`. Any other absent member is missed.
 //! - Nothing is lost. A member that is not read is refused by its name, unless nothing that a shader
-//!   does hangs on it, as on comments: `let_be.rt` lists those. An early depth test, and a
-//!   workgroup's size that an override sets, are refused unless null: they have no place in a
-//!   [`naga_ir::Module`]. Of an info only some members are read, and the others let be.
+//!   does hangs on it, as on comments: `let_be.rt` lists those. An early depth test is refused unless
+//!   null: it has no place in a [`naga_ir::Module`]. Of an info only some members are read, and the
+//!   others let be.
 //! - An enum is the name of a variant, or an object whose one member is the variant's payload, as
 //!   `"Break"` and `{"Load": {"pointer": 2}}`. The payload of a variant that has none is null:
 //!   `{"Break": null}`.
@@ -22,6 +22,9 @@
 //!   refused.
 //! - `named_expressions` is an object, read in the order of its members' numbers.
 //! - `predeclared_types`, whose keys are no texts, is a list of pairs `[key, handle]`.
+//! - `workgroup_size_overrides` is null or a list of three, each null or one of the module's own
+//!   expressions. One that is an override is that override. A constant, or a literal `u32` or `i32`, is
+//!   the initialiser of an override without a name, after all others. Any other is refused.
 //!
 //! What is known of a function may be given short, by the list of its expressions' types, and a
 //! type by its handle alone. Each `ref_count` is 0 then.
@@ -46,6 +49,7 @@ mod let_be;
 mod modules;
 mod operators;
 mod shape;
+mod sizes;
 mod statements;
 mod text;
 mod types;

@@ -35,8 +35,9 @@ mod uses;
 /// An identifier has ASCII letters, digits and `_` alone. It begins with the label's *stem*, which is
 /// made of the label alone. The first label with a stem gets the stem as it is; but a `_` follows where
 /// the stem ends in a digit or is a word that the namer keeps off. A later one gets the stem, a `_` and
-/// the number of labels with this stem before it. Contracts see a `Namer` as its words, its prefixes
-/// and the number of uses of each stem.
+/// the number of labels with this stem before it. Where digits are kept ([`Namer::keep_digits`]), no `_`
+/// follows a digit. Contracts see a `Namer` as its words, its prefixes, whether it keeps digits, and the
+/// number of uses of each stem.
 ///
 /// One that keeps off WGSL's words names the labels of `crates/example_names` so:
 ///
@@ -55,6 +56,7 @@ pub struct Namer {
     builtin_identifiers: KeywordSet,
     keywords_case_insensitive: CaseInsensitiveKeywordSet,
     reserved_prefixes: Vec<&'static str>,
+    keeps_digits: bool,
 }
 
 impl Model for Namer {
@@ -67,6 +69,7 @@ impl Model for Namer {
       builtin_identifiers = n.builtin_identifiers;
       caseless_keywords = n.keywords_case_insensitive;
       reserved_prefixes = map (λ p. p.now) n.reserved_prefixes.items;
+      keeps_digits = n.keeps_digits;
       uses = n.uses;
     } };
 }
@@ -84,6 +87,7 @@ impl Namer {
             builtin_identifiers: KeywordSet::new(alloc),
             keywords_case_insensitive: CaseInsensitiveKeywordSet::new(alloc),
             reserved_prefixes: Vec::new(alloc),
+            keeps_digits: false,
         }
     }
 
@@ -93,7 +97,7 @@ impl Namer {
         ensures words { IfOk result (λ n. n ≡ new_names
             (set.from_list (map (λ word. word.now) RESERVED.now))
             (set.from_list (map (λ word. word.now) BUILTIN_IDENTIFIERS.now))
-            set.empty (map (λ prefix. prefix.now) RESERVED_PREFIXES.now)) }
+            set.empty (map (λ prefix. prefix.now) RESERVED_PREFIXES.now) false) }
         ensures history { IfOk result (λ n. HasNamed n []) }
     {
         Ok(Self {
@@ -103,7 +107,28 @@ impl Namer {
             builtin_identifiers: builtin_words(alloc),
             keywords_case_insensitive: CaseInsensitiveKeywordSet::new(alloc),
             reserved_prefixes: Vec::from_slice(alloc, RESERVED_PREFIXES)?,
+            keeps_digits: false,
         })
+    }
+
+    /// Lets identifiers end in digits from now on: one keeps the digits that its stem ends in, unless
+    /// they come after a `_`, where they could be a number of uses, or after `_e` alone, as in the
+    /// name of an expression. No identifier that was given before comes again.
+    ///
+    /// ```text
+    /// let mut namer = Namer::for_wgsl(alloc)?;
+    /// let name = namer.call("x2")?;     // x2_
+    /// namer.keep_digits();
+    /// let name = namer.call("pass2")?;  // pass2
+    /// let name = namer.call("pass_2")?; // pass_2_
+    /// let name = namer.call("x2")?;     // x2_1
+    /// ```
+    pub fn keep_digits(&mut self)
+        ensures kept { self.new ≡ record self.old { keeps_digits = true } }
+        ensures history { (earlier : List (List ℕ)) → HasNamed self.old earlier →
+            HasNamed self.new earlier }
+    {
+        self.keeps_digits = true;
     }
 
     /// The identifier of the label, and one more use of the label's stem.
@@ -174,8 +199,8 @@ impl Namer {
     /// types, each with its members, its entry points and its functions with their arguments and
     /// variables, its globals, its constants and its overrides, in this order.
     ///
-    /// From then on identifiers keep off the words and prefixes given, and the names given before
-    /// are forgotten. The members of a struct are a namespace of their own, in which builtin words
+    /// From then on identifiers keep off the words and prefixes given, and keep their digits where
+    /// `module.keeps_digits` says so, and the names given before are forgotten. The members of a struct are a namespace of their own, in which builtin words
     /// are free: a member may have the name of another struct's, or of an item outside. An item
     /// without a label is named `type`, `member`, `param`, `local`, `function` or `global`; a
     /// struct without one that entry points return `VertexOutput`, `FragmentOutput` or
@@ -198,7 +223,8 @@ impl Namer {
         output: &mut HashMap<NameKey, String>,
     ) -> Result<(), NamerError>
         ensures { IsReset (start_of reserved_keywords builtin_identifiers
-            keywords_case_insensitive reserved_prefixes.now) «module».now result self.new
+            keywords_case_insensitive reserved_prefixes.now «module».now.keeps_digits)
+            «module».now result self.new
             (names_in output.old) (names_in output.new) }
     {
         let alloc = self.alloc;
@@ -217,6 +243,7 @@ impl Namer {
             builtin_identifiers,
             keywords_case_insensitive,
             reserved_prefixes: prefixes,
+            keeps_digits: module.keeps_digits,
         };
         let mut naming = Naming::new(alloc, namer);
         naming.name_items(module, output);
@@ -299,7 +326,7 @@ impl Namer {
         ensures { IfOk result (λ name. string_bytes name ≡ first_name self.now stem.now) }
     {
         let mut name = String::from_str(self.alloc, stem)?;
-        if label::ends_in_digit(stem) || self.is_taken(stem) {
+        if label::has_bad_end(self.keeps_digits, stem) || self.is_taken(stem) {
             name.push('_')?;
         }
         Ok(name)

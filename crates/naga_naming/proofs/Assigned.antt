@@ -118,7 +118,7 @@ module _ (names : Names) (labels : List (List ℕ)) (has : HasNamed names labels
       let own_used : uses_of names.uses stem ≡ labels_with_stem names labels stem = has.uses_are stem in
       let less : follows.number < uses_of names.uses follows.stem = follows.used in
       let one = counted names follows.stem labels follows.number (omega (arith, used, less)) in
-      let same = same_stem_and_number names stem follows.stem (uses_of names.uses stem)
+      let same = same_stem_and_number names names stem follows.stem (uses_of names.uses stem)
       follows.number (stem_ends names.reserved_prefixes (chars label))
       (ap ends_separated (sym one.own) ∙ stem_ends names.reserved_prefixes (chars one.label))
       follows.is in

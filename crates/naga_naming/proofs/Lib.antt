@@ -1,4 +1,5 @@
 pub mod Assigned
+pub mod Ends
 mod Examples
 pub mod Keys
 pub mod Label

@@ -1,5 +1,5 @@
 -- What every name looks like, and that a name tells its stem and its number.
-use Rattle.std.proofs.Common.{◌≡◌, ℕ, ◌+◌, Bool, true, false, not, ◌&&◌, ◌||◌, ◌==◌, cond, List, []}
+use Rattle.std.proofs.Common.{◌≡◌, ◌≢◌, ℕ, ◌+◌, Bool, true, false, not, ◌&&◌, ◌||◌, ◌==◌, cond, List, []}
 use Rattle.std.proofs.Common.{◌∷◌, ◌++◌, get_or, drop, codes, refl, sym, ap, ◌∙◌, arith}
 use Rattle.std.proofs.Common.{append_assoc, append-nil, All}
 use Rattle.std.specs.List.{list_all, starts_with}
@@ -18,7 +18,8 @@ use Rattle.std.proofs.lemmas.Bool.Decides.{nat_tests}
 use Rattle.std.proofs.lemmas.Map.Text.{is_eq-slice_cmp}
 use Rattle.std.proofs.lemmas.Bool.{and_parts, and_from, true≢false, or_parts}
 use Rattle.std.proofs.Math.Bool.{and-false}
-use Rattle.naga_naming.proofs.Label.{get_or-last, ends_separated-push, is_text, is_text-decimal}
+use Rattle.naga_naming.proofs.Ends.{separator_no_digit, later_is_bad, numbered_is_bad, kept_end}
+use Rattle.naga_naming.proofs.Label.{ends_separated-push, is_text, is_text-decimal}
 use Rattle.naga_naming.proofs.Label.{is_text-digits_of, all_digits-digits_of, all_digits-decimal}
 use Rattle.naga_naming.proofs.Stems.{stem_is_word, stem_ends, begins_double, stem_not_double}
 use Rattle.naga_naming.proofs.Numerals.{numeral_injective}
@@ -27,33 +28,9 @@ use Rattle.naga_naming.specs.Label.{without_last_separators, or_unnamed, set_apa
 use Rattle.naga_keywords.specs.Plain.{is_identifier_char, is_word, is_identifier}
 use Rattle.naga_keywords.specs.Plain.{is_empty_or_separated, HasPlainEnds, IsPlain}
 use Rattle.naga_keywords.specs.Words.{in_lower_case}
-use Rattle.naga_naming.specs.Naming.{Names, label_stem, is_taken, ends_in_digit, first_name}
+use Rattle.naga_naming.specs.Naming.{Names, label_stem, is_taken, ends_in_digit, has_bad_end}
+use Rattle.naga_naming.specs.Naming.{first_name}
 use Rattle.naga_naming.specs.Naming.{later_name, name_of_stem, labels_with_stem, name_after, digits_of}
-
--- ---- the last character
--- the text ends in a character that passes
-pub ends_by : (ℕ → Bool) → List ℕ → Bool
-ends_by p [] = false
-ends_by p (c ∷ []) = p c
-ends_by p (c ∷ d ∷ cs) = ends_by p (d ∷ cs)
-
-ends_by-append : (p : ℕ → Bool) (xs : List ℕ) (y : ℕ) (ys : List ℕ) → ends_by p (xs ++ y ∷ ys) ≡ ends_by p (y ∷ ys)
-unfolding ends_by
-ends_by-append p [] y ys = refl
-ends_by-append p (x ∷ []) y ys = refl
-ends_by-append p (x ∷ z ∷ xs) y ys = ends_by-append p (z ∷ xs) y ys
-
-ends_by-all : (p : ℕ → Bool) (text : List ℕ) → is_text text ≡ true → list_all p text ≡ true → ends_by p text ≡ true
-unfolding ends_by is_text
-ends_by-all p [] some all = absurd (cc)
-ends_by-all p (c ∷ []) some all = (and_parts (p c) true all).0
-ends_by-all p (c ∷ d ∷ cs) some all = ends_by-all p (d ∷ cs) refl (and_parts (p c) (list_all p (d ∷ cs)) all).1
-
-ends_by-last : (text : List ℕ) → ends_in_digit text ≡ ends_by is_ascii_digit text
-unfolding ends_by
-ends_by-last [] = refl
-ends_by-last (c ∷ []) = refl
-ends_by-last (c ∷ d ∷ text) = ap is_ascii_digit (get_or-last c d text) ∙ ends_by-last (d ∷ text)
 
 -- ---- the last `_`
 abbrev has_none : List ℕ → Bool
@@ -85,22 +62,31 @@ number_has_none n = digits_have_none (digits_of n) (all_digits-digits_of n)
 
 -- ---- a name by its stem and the uses before it
 module _ (names : Names) (stem : List ℕ) where
-  first_cases : (first_name names stem ≡ stem ++ 95 ∷ [])
-      ⊎ ((first_name names stem ≡ stem) × (ends_in_digit stem ≡ false) × (is_taken names stem ≡ false))
-  first_cases = either (ends_in_digit stem || is_taken names stem) refl
+  abbrev FirstCases : Type 0
+  FirstCases = (first_name names stem ≡ stem ++ 95 ∷ [])
+      ⊎ ((first_name names stem ≡ stem) × (has_bad_end names.keeps_digits stem ≡ false)
+      × (is_taken names stem ≡ false))
+
+  first_cases : FirstCases
+  first_cases = either (has_bad_end names.keeps_digits stem || is_taken names stem) refl
     where
-      either : (b : Bool) → (ends_in_digit stem || is_taken names stem) ≡ b →
+      either : (b : Bool) → (has_bad_end names.keeps_digits stem || is_taken names stem) ≡ b →
           (cond b (stem ++ codes "_") stem ≡ stem ++ 95 ∷ []) ⊎
-          ((cond b (stem ++ codes "_") stem ≡ stem) × (ends_in_digit stem ≡ false) ×
+          ((cond b (stem ++ codes "_") stem ≡ stem) × (has_bad_end names.keeps_digits stem ≡ false) ×
           (is_taken names stem ≡ false))
       either true e = inl refl
-      either false e = let parts = or_parts (ends_in_digit stem) (is_taken names stem) e in inr (refl, parts.0, parts.1)
+      either false e =
+          let parts = or_parts (has_bad_end names.keeps_digits stem) (is_taken names stem) e in
+          inr (refl, parts.0, parts.1)
 
   later_is : (n : ℕ) → later_name stem n ≡ stem ++ 95 ∷ digits_of n
   later_is n = append_assoc stem (95 ∷ []) (digits_of n)
 
-  name_cases : (n : ℕ) → ((n ≡ 0) × (name_of_stem names stem n ≡ first_name names stem))
+  abbrev NameCases : ℕ → Type 0
+  NameCases n = ((n ≡ 0) × (name_of_stem names stem n ≡ first_name names stem))
       ⊎ (name_of_stem names stem n ≡ stem ++ 95 ∷ digits_of n)
+
+  name_cases : (n : ℕ) → NameCases n
   name_cases n = either (n == 0) refl
     where
       none : (n == 0) ≡ true → n ≡ 0
@@ -112,26 +98,24 @@ module _ (names : Names) (stem : List ℕ) where
       either true e = inl (none e, refl)
       either false e = inr (later_is n)
 
-  first_ends : ends_by is_ascii_digit (first_name names stem) ≡ false
-  unfolding ends_by
-  first_ends = either first_cases
+  -- what ends badly is no first name
+  first_ends : (name : List ℕ) → has_bad_end names.keeps_digits name ≡ true → first_name names stem ≡ name → ⊥
+  first_ends name bad is = either first_cases
     where
-      either : (first_name names stem ≡ stem ++ 95 ∷ []) ⊎
-          ((first_name names stem ≡ stem) × (ends_in_digit stem ≡ false) ×
-          (is_taken names stem ≡ false)) → ends_by is_ascii_digit (first_name names stem) ≡ false
-      either (inl is) = ap (ends_by is_ascii_digit) is ∙ ends_by-append is_ascii_digit stem 95 []
-      either (inr is) = ap (ends_by is_ascii_digit) is.0 ∙ sym (ends_by-last stem) ∙ is.1
+      either : FirstCases → ⊥
+      either (inl e) = true≢false (sym (and_parts (ends_in_digit name) _ bad).0
+          ∙ ap ends_in_digit (sym is ∙ e) ∙ separator_no_digit stem)
+      either (inr e) = true≢false (sym bad ∙ ap (has_bad_end names.keeps_digits) (sym is ∙ e.0) ∙ e.1)
 
-  later_ends : (n : ℕ) → ends_by is_ascii_digit (stem ++ 95 ∷ digits_of n) ≡ true
+  -- so a later name is none
+  first_no_later : (c : List ℕ) (n : ℕ) → first_name names stem ≡ c ++ 95 ∷ digits_of n → ⊥
   unfolding is_text
-  later_ends n = ap (ends_by is_ascii_digit) (sym (append_assoc stem (95 ∷ []) (digits_of n)))
-      ∙ ended (digits_of n) (is_text-digits_of n) (all_digits-digits_of n)
+  first_no_later c n = by (digits_of n) (is_text-digits_of n) (all_digits-digits_of n)
     where
-      ended : (ds : List ℕ) → is_text ds ≡ true → list_all is_ascii_digit ds ≡ true →
-          ends_by is_ascii_digit ((stem ++ 95 ∷ []) ++ ds) ≡ true
-      ended [] some all = absurd (cc)
-      ended (d ∷ ds) some all = ends_by-append is_ascii_digit (stem ++ 95 ∷ []) d ds
-          ∙ ends_by-all is_ascii_digit (d ∷ ds) refl all
+      by : (ds : List ℕ) → is_text ds ≡ true → list_all is_ascii_digit ds ≡ true →
+          first_name names stem ≡ c ++ 95 ∷ ds → ⊥
+      by [] some all is = absurd (cc)
+      by (d ∷ ds) some all is = first_ends (c ++ 95 ∷ d ∷ ds) (later_is_bad names.keeps_digits c d ds all) is
 
   -- ---- a name is a word
   only_more : (more : List ℕ) → is_word stem ≡ true → list_all is_identifier_char more ≡ true →
@@ -156,14 +140,11 @@ module _ (names : Names) (stem : List ℕ) where
   word_of_stem : is_word stem ≡ true → (n : ℕ) → is_word (name_of_stem names stem n) ≡ true
   word_of_stem word n = either (name_cases n)
     where
-      first : (first_name names stem ≡ stem ++ 95 ∷ [])
-          ⊎ ((first_name names stem ≡ stem) × (ends_in_digit stem ≡ false) × (is_taken names stem ≡ false)) →
-          is_word (first_name names stem) ≡ true
+      first : FirstCases → is_word (first_name names stem) ≡ true
       first (inl is) = ap is_word is ∙ only_more (95 ∷ []) word refl
       first (inr is) = ap is_word is.0 ∙ word
 
-      either : ((n ≡ 0) × (name_of_stem names stem n ≡ first_name names stem))
-          ⊎ (name_of_stem names stem n ≡ stem ++ 95 ∷ digits_of n) → is_word (name_of_stem names stem n) ≡ true
+      either : NameCases n → is_word (name_of_stem names stem n) ≡ true
       either (inl is) = ap is_word is.1 ∙ first first_cases
       either (inr is) = ap is_word is ∙ only_more (95 ∷ digits_of n) word
           (digits_are_only (digits_of n) (all_digits-digits_of n))
@@ -175,14 +156,11 @@ module _ (names : Names) (stem : List ℕ) where
     free_of_stem : (n : ℕ) → taken (name_of_stem names stem n) ≡ false
     free_of_stem n = either (name_cases n)
       where
-        first : (first_name names stem ≡ stem ++ 95 ∷ [])
-            ⊎ ((first_name names stem ≡ stem) × (ends_in_digit stem ≡ false) × (is_taken names stem ≡ false)) →
-            taken (first_name names stem) ≡ false
+        first : FirstCases → taken (first_name names stem) ≡ false
         first (inl is) = ap taken is ∙ plain stem [] refl
         first (inr is) = ap taken is.0 ∙ kept is.2
 
-        either : ((n ≡ 0) × (name_of_stem names stem n ≡ first_name names stem))
-            ⊎ (name_of_stem names stem n ≡ stem ++ 95 ∷ digits_of n) → taken (name_of_stem names stem n) ≡ false
+        either : NameCases n → taken (name_of_stem names stem n) ≡ false
         either (inl is) = ap taken is.1 ∙ first first_cases
         either (inr is) = ap taken is ∙ plain stem (digits_of n) (all_digits-digits_of n)
 
@@ -195,28 +173,16 @@ module _ (names : Names) (stem : List ℕ) where
       nothing : stem ≡ [] → ⊥
       nothing e = true≢false (sym word ∙ ap is_word e)
 
-      either : ((n ≡ 0) × (name_of_stem names stem n ≡ first_name names stem))
-          ⊎ (name_of_stem names stem n ≡ stem ++ 95 ∷ digits_of n) → ⊥
-      either (inl first) = true≢false (sym numbered_ends ∙ ap (ends_by is_ascii_digit) (sym is ∙ first.1) ∙ first_ends)
-        where
-          numbered_ends : ends_by is_ascii_digit (codes "_e" ++ (d ∷ ds)) ≡ true
-          numbered_ends =
-              ends_by-append is_ascii_digit (codes "_e") d ds ∙ ends_by-all is_ascii_digit (d ∷ ds) refl all
+      either : NameCases n → ⊥
+      either (inl first) =
+          first_ends (codes "_e" ++ d ∷ ds) (numbered_is_bad names.keeps_digits d ds all) (sym first.1 ∙ is)
       either (inr later) = nothing (split_last stem (digits_of n) [] (101 ∷ d ∷ ds) (number_has_none n)
           (digits_have_none (d ∷ ds) all) (sym later ∙ is)).0
 
--- ---- a name tells its stem and its number
-module _ (names : Names) (b c : List ℕ) (m n : ℕ) (b_ends : ends_separated b ≡ false)
+-- ---- a name tells its stem and its number, where digits are kept or not on either side
+module _ (names others : Names) (b c : List ℕ) (m n : ℕ) (b_ends : ends_separated b ≡ false)
     (c_ends : ends_separated c ≡ false) where
-  abbrev FirstCases : List ℕ → Type 0
-  FirstCases d = (first_name names d ≡ d ++ 95 ∷ [])
-      ⊎ ((first_name names d ≡ d) × (ends_in_digit d ≡ false) × (is_taken names d ≡ false))
-
-  abbrev NameCases : List ℕ → ℕ → Type 0
-  NameCases d k = ((k ≡ 0) × (name_of_stem names d k ≡ first_name names d))
-      ⊎ (name_of_stem names d k ≡ d ++ 95 ∷ digits_of k)
-
-  both_first : FirstCases b → FirstCases c → first_name names b ≡ first_name names c → b ≡ c
+  both_first : FirstCases names b → FirstCases others c → first_name names b ≡ first_name others c → b ≡ c
   both_first (inl x) (inl y) e = (split_last b [] c [] refl refl (sym x ∙ e ∙ y)).0
   both_first (inl x) (inr y) e =
       absurd (true≢false (sym (ends_separated-push b 95) ∙ ap ends_separated (sym x ∙ e ∙ y.0)
@@ -226,20 +192,18 @@ module _ (names : Names) (b c : List ℕ) (m n : ℕ) (b_ends : ends_separated b
       ∙ b_ends))
   both_first (inr x) (inr y) e = sym x.0 ∙ e ∙ y.0
 
-  both : NameCases b m → NameCases c n → name_of_stem names b m ≡ name_of_stem names c n → (b ≡ c) × (m ≡ n)
-  both (inl x) (inl y) e = (both_first (first_cases names b) (first_cases names c) (sym x.1 ∙ e ∙ y.1), x.0 ∙ sym y.0)
-  both (inl x) (inr y) e =
-      absurd (true≢false (sym (later_ends names c n) ∙ ap (ends_by is_ascii_digit) (sym y ∙ sym e ∙ x.1)
-      ∙ first_ends names b))
-  both (inr x) (inl y) e =
-      absurd (true≢false (sym (later_ends names b m) ∙ ap (ends_by is_ascii_digit) (sym x ∙ e ∙ y.1)
-      ∙ first_ends names c))
+  both : NameCases names b m → NameCases others c n → name_of_stem names b m ≡ name_of_stem others c n →
+      (b ≡ c) × (m ≡ n)
+  both (inl x) (inl y) e =
+      (both_first (first_cases names b) (first_cases others c) (sym x.1 ∙ e ∙ y.1), x.0 ∙ sym y.0)
+  both (inl x) (inr y) e = absurd (first_no_later names b c n (sym x.1 ∙ e ∙ y))
+  both (inr x) (inl y) e = absurd (first_no_later others c b m (sym y.1 ∙ sym e ∙ x))
   both (inr x) (inr y) e =
       let parts = split_last b (digits_of m) c (digits_of n) (number_has_none m) (number_has_none n) (sym x ∙ e ∙ y) in
       (parts.0, numeral_injective m n parts.1)
 
-  pub same_stem_and_number : name_of_stem names b m ≡ name_of_stem names c n → (b ≡ c) × (m ≡ n)
-  same_stem_and_number e = both (name_cases names b m) (name_cases names c n) e
+  pub same_stem_and_number : name_of_stem names b m ≡ name_of_stem others c n → (b ≡ c) × (m ≡ n)
+  same_stem_and_number e = both (name_cases names b m) (name_cases others c n) e
 
 -- ---- the laws, over the labels that were named before
 -- a name is a word: ASCII letters, digits and `_`, at least one of them, and no digit first
@@ -274,17 +238,13 @@ identifier_of_stem names stem n some ends single = either (name_cases names stem
     plain word = ap is_identifier (sym (append-nil stem)) ∙ identifier_more stem [] some ends single
         (ap is_word (append-nil stem) ∙ word)
 
-    first : (first_name names stem ≡ stem ++ 95 ∷ []) ⊎
-        ((first_name names stem ≡ stem) × (ends_in_digit stem ≡ false) ×
-        (is_taken names stem ≡ false)) → is_word (first_name names stem) ≡ true →
+    first : FirstCases names stem → is_word (first_name names stem) ≡ true →
         is_identifier (first_name names stem) ≡ true
     first (inl is) word = ap is_identifier is ∙ identifier_more stem (95 ∷ []) some ends single
         (ap is_word (sym is) ∙ word)
     first (inr is) word = ap is_identifier is.0 ∙ plain some
 
-    either : ((n ≡ 0) × (name_of_stem names stem n ≡ first_name names stem)) ⊎
-        (name_of_stem names stem n ≡ stem ++ 95 ∷ digits_of n) →
-        is_word (name_of_stem names stem n) ≡ true →
+    either : NameCases names stem n → is_word (name_of_stem names stem n) ≡ true →
         is_identifier (name_of_stem names stem n) ≡ true
     either (inl is) word = ap is_identifier is.1 ∙ first (first_cases names stem) (ap is_word (sym is.1) ∙ word)
     either (inr is) word = ap is_identifier is ∙ identifier_more stem (95 ∷ digits_of n) some ends single
@@ -331,14 +291,11 @@ naga_of_stem : (names : Names) (stem : List ℕ) (n : ℕ) → is_word stem ≡ 
     naga (name_of_stem names stem n) ≡ false
 naga_of_stem names stem n some off = either (name_cases names stem n)
   where
-    first : (first_name names stem ≡ stem ++ 95 ∷ [])
-        ⊎ ((first_name names stem ≡ stem) × (ends_in_digit stem ≡ false) × (is_taken names stem ≡ false)) →
-        naga (first_name names stem) ≡ false
+    first : FirstCases names stem → naga (first_name names stem) ≡ false
     first (inl is) = ap naga is ∙ naga_parted stem [] some ∙ off
     first (inr is) = ap naga is.0 ∙ off
 
-    either : ((n ≡ 0) × (name_of_stem names stem n ≡ first_name names stem))
-        ⊎ (name_of_stem names stem n ≡ stem ++ 95 ∷ digits_of n) → naga (name_of_stem names stem n) ≡ false
+    either : NameCases names stem n → naga (name_of_stem names stem n) ≡ false
     either (inl is) = ap naga is.1 ∙ first (first_cases names stem)
     either (inr is) = ap naga is ∙ naga_parted stem (digits_of n) some ∙ off
 
@@ -439,18 +396,33 @@ module _ (start : Names) where
       (sum_by-cons (λ l. cond (bytes_eq (label_stem start l) stem) 1 0) a rest
       ∙ ap (λ b. cond b 1 0 + labels_with_stem start rest stem) ((bytes_decides (label_stem start a) stem).1 same))
 
-  -- labels at two indices have different names
-  pub names_differ : (first : List (List ℕ)) (a : List ℕ) (middle : List (List ℕ)) (b : List ℕ) →
-      name_after start first a ≡ name_after start (first ++ a ∷ middle) b → ⊥
-  names_differ first a middle b is =
-      let stem_a : List ℕ = label_stem start a in
-      let stem_b : List ℕ = label_stem start b in
-      let m : ℕ = labels_with_stem start first stem_a in
-      let n : ℕ = labels_with_stem start (first ++ a ∷ middle) stem_b in
-      let same = same_stem_and_number start stem_a stem_b m n (stem_ends start.reserved_prefixes (chars a))
-      (stem_ends start.reserved_prefixes (chars b)) is in
-      let more : n ≡ labels_with_stem start first stem_b + (1 + labels_with_stem start middle stem_b) =
-      counted_more first a middle stem_b same.0 in
-      let less : m ≡ labels_with_stem start first stem_b = ap (labels_with_stem start first) same.0 in
-      let equal : m ≡ n = same.1 in
-      absurd (omega (arith, more, less, equal))
+-- labels at two indices have different names, even where digits are kept from the second on, or no longer
+pub names_differ_by : (start : Names) (keeps : Bool) (first : List (List ℕ)) (a : List ℕ)
+    (middle : List (List ℕ)) (b : List ℕ) →
+    name_after start first a ≡ name_after (record start { keeps_digits = keeps }) (first ++ a ∷ middle) b → ⊥
+names_differ_by start keeps first a middle b is =
+    let stem_a : List ℕ = label_stem start a in
+    let stem_b : List ℕ = label_stem start b in
+    let m : ℕ = labels_with_stem start first stem_a in
+    let n : ℕ = labels_with_stem start (first ++ a ∷ middle) stem_b in
+    let same = same_stem_and_number start (record start { keeps_digits = keeps }) stem_a stem_b m n
+    (stem_ends start.reserved_prefixes (chars a))
+    (stem_ends start.reserved_prefixes (chars b)) is in
+    let more : n ≡ labels_with_stem start first stem_b + (1 + labels_with_stem start middle stem_b) =
+    counted_more start first a middle stem_b same.0 in
+    let less : m ≡ labels_with_stem start first stem_b = ap (labels_with_stem start first) same.0 in
+    let equal : m ≡ n = same.1 in
+    absurd (omega (arith, more, less, equal))
+
+pub names_differ : (start : Names) (first : List (List ℕ)) (a : List ℕ) (middle : List (List ℕ)) (b : List ℕ) →
+    name_after start first a ≡ name_after start (first ++ a ∷ middle) b → ⊥
+names_differ start = names_differ_by start start.keeps_digits
+
+-- digits that may be kept are
+pub first_keeps : (start : Names) (front ds : List ℕ) → start.keeps_digits ≡ true →
+    list_all is_ascii_digit ds ≡ true → ends_in_digit front ≡ false → ends_separated front ≡ false →
+    front ≢ codes "_e" → is_taken start (front ++ ds) ≡ false → first_name start (front ++ ds) ≡ front ++ ds
+first_keeps start front ds keeps all none apart unnumbered free =
+    (λ i. cond (has_bad_end (keeps i) (front ++ ds) || free i) ((front ++ ds) ++ codes "_") (front ++ ds))
+    ∙ ap (λ b. cond (b || false) ((front ++ ds) ++ codes "_") (front ++ ds))
+    (kept_end front ds all none apart unnumbered)

@@ -113,22 +113,23 @@ module _ where
   begins start before none = record { words = refl; labels = none; keys = refl; put = record { finds = λ q. refl } }
 
 -- these words and prefixes, with no uses
-pub starts : (keywords builtins caseless : Words) (uses : Uses)
+pub starts : (keywords builtins caseless : Words) (keeps_digits : Bool) (uses : Uses)
     (prefixes assigned : List (Bor (List ℕ))) → uses ≡ finite.empty → prefixes ≡ assigned →
     record {
       keywords = keywords;
       builtin_identifiers = builtins;
       caseless_keywords = caseless;
       reserved_prefixes = map (λ p. p.now) prefixes;
+      keeps_digits = keeps_digits;
       uses = uses;
-    } ≡ new_names keywords builtins
-    caseless (map (λ p. p.now) assigned)
-starts keywords builtins caseless uses prefixes assigned none same =
+    } ≡ new_names keywords builtins caseless (map (λ p. p.now) assigned) keeps_digits
+starts keywords builtins caseless keeps_digits uses prefixes assigned none same =
     λ i. record {
       keywords = keywords;
       builtin_identifiers = builtins;
       caseless_keywords = caseless;
       reserved_prefixes = map (λ p. p.now) (same i);
+      keeps_digits = keeps_digits;
       uses = none i;
     }
 

@@ -2,15 +2,16 @@
 --
 -- Throughout, t is the handle of a type ty, n and k are indexes of its members, i and j those of
 -- items; a and b are labels, items or members, and h is the handle of an expression.
-use Rattle.std.specs.Prelude.{◌≡◌, ℕ, ◌<◌, map, List, [], ◌∷◌, nat_eq, ◌++◌, take, true}
-use Rattle.std.specs.Prelude.{false, codes, slice_get, Some}
+use Rattle.std.specs.Prelude.{◌≡◌, ◌≢◌, ℕ, ◌<◌, map, List, [], ◌∷◌, nat_eq, ◌++◌, take, Bool}
+use Rattle.std.specs.Prelude.{true, false, ◌||◌, if◌then◌else◌, codes, slice_get, Some}
 use Rattle.std.specs.List.{list_all, starts_with}
 use Rattle.std.specs.Char.{is_ascii_digit}
 use Rattle.std.specs.FinSet as set
 use Rattle.naga_keywords.specs.Plain.{is_identifier, HasPlainEnds}
 use Rattle.naga_keywords.specs.Words.{in_lower_case}
+use Rattle.naga_naming.specs.Label.{ends_separated}
 use Rattle.naga_naming.specs.Naming.{Names, uses_of, name_of, name_of_stem, name_after}
-use Rattle.naga_naming.specs.Naming.{HasNamed}
+use Rattle.naga_naming.specs.Naming.{HasNamed, ends_in_digit, first_name, is_taken}
 use Rattle.naga_naming.specs.Keys.{NameMap}
 use Rattle.naga_naming.specs.Reset.{LabelledItem, is_member, members_of, member_label, member_names}
 use Rattle.naga_naming.specs.Reset.{item_name, labelled_items, HasNamedItems}
@@ -66,6 +67,32 @@ abbrev pub NamesDiffer : Type 0
 NamesDiffer =
     (start : Names) (first : List (List ℕ)) (a : List ℕ) (middle : List (List ℕ)) (b : List ℕ) →
     name_after start first a ≡ name_after start (first ++ a ∷ middle) b → ⊥
+
+-- and so have they where digits are kept from some label on, or are no longer
+abbrev pub NamesDifferAcrossSettings : Type 0
+NamesDifferAcrossSettings =
+    (start : Names) (keeps : Bool) (first : List (List ℕ)) (a : List ℕ)
+    (middle : List (List ℕ)) (b : List ℕ) →
+    let later = record start { keeps_digits = keeps } in
+    name_after start first a ≡ name_after later (first ++ a ∷ middle) b → ⊥
+
+-- ---- digits at the end
+-- Where digits are not kept, the first name of a stem has a `_` after it where the stem ends in one
+-- or is taken, as in naga.
+abbrev pub DigitsAreSetApart : Type 0
+DigitsAreSetApart =
+    (start : Names) (stem : List ℕ) → start.keeps_digits ≡ false →
+    first_name start stem
+    ≡ (if ends_in_digit stem || is_taken start stem then stem ++ codes "_" else stem)
+
+-- Where they are kept, a stem that is not taken is its own first name, unless the digits at its end
+-- come after a `_` or after `_e` alone.
+abbrev pub DigitsAreKept : Type 0
+DigitsAreKept =
+    (start : Names) (front digits : List ℕ) → start.keeps_digits ≡ true →
+    list_all is_ascii_digit digits ≡ true → ends_in_digit front ≡ false →
+    ends_separated front ≡ false → front ≢ codes "_e" →
+    is_taken start (front ++ digits) ≡ false → first_name start (front ++ digits) ≡ front ++ digits
 
 -- after a `reset` each item has in the map the name that it has after the items before it
 abbrev pub ItemsAreNamed : Type 0

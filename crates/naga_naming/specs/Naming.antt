@@ -1,15 +1,15 @@
 -- The names that a `Namer` gives.
 --
 -- Throughout, n are names, and p their parts as a pair.
-use Rattle.std.specs.Prelude.{◌≡◌, ℕ, suc, ◌+◌, ◌-◌, ◌^◌, ◌<◌, ◌≤◌, Some, None, Bool, ◌||◌, ◌==◌}
-use Rattle.std.specs.Prelude.{false}
-use Rattle.std.specs.Prelude.{if◌then◌else◌, List, ◌++◌, length, slice_index, [], codes, count_by}
-use Rattle.std.specs.Prelude.{unwrap_or, refl, string_bytes}
+use Rattle.std.specs.Prelude.{◌≡◌, ℕ, suc, ◌+◌, ◌-◌, ◌^◌, ◌<◌, ◌≤◌, Some, None, Bool, false, not}
+use Rattle.std.specs.Prelude.{◌||◌, ◌&&◌, ◌==◌, if◌then◌else◌, List, [], ◌∷◌, ◌++◌, length, codes}
+use Rattle.std.specs.Prelude.{slice_index, count_by, unwrap_or, refl, string_bytes}
+use Rattle.std.specs.List.{list_all}
 use Rattle.std.specs.Option.{option_map_or}
 use Rattle.std.specs.declared.option.Option.{Option}
 use Rattle.std.specs.declared.string.String.{String}
 use Rattle.std.specs.Char.{is_ascii_digit}
-use Rattle.std.specs.Coded.{Coded, code_by, coded×, coded_list, coded_ℕ}
+use Rattle.std.specs.Coded.{Coded, code_by, coded×, coded_bool, coded_list, coded_ℕ}
 use Rattle.std.specs.Cmp.Lexicographic.{slice_cmp}
 use Rattle.std.specs.FinMap as map
 use Rattle.std.specs.Fmt.{digits_onto}
@@ -17,6 +17,7 @@ use Rattle.std.specs.FinSet as set
 use Rattle.std.specs.Ordering.{nat_cmp}
 use Rattle.std.specs.Str.{bytes_eq, chars}
 use Rattle.naga_naming.specs.Label.{stem_of}
+use Rattle.naga_keywords.specs.Plain.{has_plain_end}
 use Rattle.naga_keywords.specs.Words.{Words, in_lower_case}
 
 -- how often each stem was used; a stem that was never used isn't there
@@ -32,33 +33,37 @@ words_code = set.code (coded_list coded_ℕ)
 abbrev pub uses_code : Coded Uses
 uses_code = map.code (coded_list coded_ℕ) coded_ℕ
 
--- what a `Namer` goes by: its three sets of words, the prefixes that it keeps off, and its uses
+-- what a `Namer` goes by: its three sets of words, the prefixes that it keeps off, whether names
+-- keep the digits that their stems end in, and its uses
 pub record Names : Type 0 where
   pub keywords : Words
   pub builtin_identifiers : Words
   -- with their ASCII letters in lower case
   pub caseless_keywords : Words
   pub reserved_prefixes : List (List ℕ)
+  pub keeps_digits : Bool
   pub uses : Uses
 
 abbrev pub names_code : Coded Names
 names_code =
     let prefixes_code = coded_list (coded_list coded_ℕ) in
-    let rest_code = coded× words_code (coded× prefixes_code uses_code) in
-    code_by (Words × (Words × (Words × (List (List ℕ) × Uses))))
-    (coded× words_code (coded× words_code rest_code))
+    let rest_code = coded× prefixes_code (coded× coded_bool uses_code) in
+    code_by (Words × (Words × (Words × (List (List ℕ) × (Bool × Uses)))))
+    (coded× words_code (coded× words_code (coded× words_code rest_code)))
     (λ n.
-    (n.keywords, (n.builtin_identifiers, (n.caseless_keywords, (n.reserved_prefixes, n.uses)))))
+    let rest : List (List ℕ) × (Bool × Uses) = (n.reserved_prefixes, (n.keeps_digits, n.uses)) in
+    (n.keywords, (n.builtin_identifiers, (n.caseless_keywords, rest))))
     (λ p. record {
       keywords = p.0;
       builtin_identifiers = p.1.0;
       caseless_keywords = p.1.1.0;
       reserved_prefixes = p.1.1.1.0;
-      uses = p.1.1.1.1;
+      keeps_digits = p.1.1.1.1.0;
+      uses = p.1.1.1.1.1;
     })
     (λ _. refl)
 
--- no words, no prefixes, no uses
+-- no words, no prefixes, no uses, and no digits kept
 abbrev pub no_names : Names
 no_names =
     record {
@@ -66,17 +71,20 @@ no_names =
       builtin_identifiers = set.empty;
       caseless_keywords = set.empty;
       reserved_prefixes = [];
+      keeps_digits = false;
       uses = map.empty;
     }
 
--- these words and prefixes, and no uses
-abbrev pub new_names : Words → Words → Words → List (List ℕ) → Names
-new_names keywords builtins caseless prefixes =
+-- these words and prefixes, whether digits are kept, and no uses
+abbrev pub new_names : (keywords builtins caseless : Words) → (prefixes : List (List ℕ)) →
+    (keeps_digits : Bool) → Names
+new_names keywords builtins caseless prefixes keeps_digits =
     record {
       keywords = keywords;
       builtin_identifiers = builtins;
       caseless_keywords = caseless;
       reserved_prefixes = prefixes;
+      keeps_digits = keeps_digits;
       uses = map.empty;
     }
 
@@ -97,11 +105,23 @@ is_taken names word =
 abbrev pub ends_in_digit : List ℕ → Bool
 ends_in_digit text = is_ascii_digit (slice_index text (length text - 1))
 
--- the first name of a stem has a `_` after it where
--- the stem ends in a digit or is in one of the sets
+-- `_e`, and nothing or digits alone after it
+abbrev pub is_numbered : List ℕ → Bool
+is_numbered [] = false
+is_numbered (c ∷ []) = false
+is_numbered (c ∷ d ∷ cs) = c == 95 && (d == 101 && list_all is_ascii_digit cs)
+
+-- The stem ends in digits that its first name may not end in. Where digits are not kept, these are
+-- any. Where they are, these are the ones after a `_`, as a later name has them, and the ones after
+-- `_e` alone, as the name of an expression has them.
+abbrev pub has_bad_end : (keeps_digits : Bool) → (stem : List ℕ) → Bool
+has_bad_end keeps_digits stem =
+    ends_in_digit stem && (not keeps_digits || (not (has_plain_end stem) || is_numbered stem))
+
+-- the first name of a stem has a `_` after it where the stem has such an end or is in one of the sets
 abbrev pub first_name : Names → List ℕ → List ℕ
 first_name names stem =
-    if ends_in_digit stem || is_taken names stem then stem ++ codes "_" else stem
+    if has_bad_end names.keeps_digits stem || is_taken names stem then stem ++ codes "_" else stem
 
 -- a number in decimal, however great it is: it has no more digits than it counts, and one
 abbrev pub digits_of : ℕ → List ℕ

@@ -6,6 +6,7 @@ ghost use Rattle.std.specs.Hash.{Alike};
 ghost use Rattle.naga_naming.specs.Laws.{NamesAreIdentifiers, NamesKeepOffNaga, NamesAreNoKeywords};
 ghost use Rattle.naga_naming.specs.Laws.{NamesAreNoBuiltins, NamesAreNoCaselessKeywords};
 ghost use Rattle.naga_naming.specs.Laws.{NamesAreNotNumbered, NamesDiffer, ItemsAreNamed};
+ghost use Rattle.naga_naming.specs.Laws.{NamesDifferAcrossSettings, DigitsAreSetApart, DigitsAreKept};
 ghost use Rattle.naga_naming.specs.Laws.{ItemsAreDistinguished, MembersAreNamed};
 ghost use Rattle.naga_naming.specs.Laws.{MembersAreDistinguished};
 ghost use Rattle.naga_naming.specs.Laws.{MembersAreNotReserved, AssignedNamesFollow};
@@ -46,9 +47,17 @@ pub fn names_are_not_numbered()
     ensures { NamesAreNotNumbered }
 {}
 
-/// No two labels get one name.
+/// No two labels get one name, not even where digits are kept from some label on.
 pub fn names_differ()
-    ensures { NamesDiffer }
+    ensures labels { NamesDiffer }
+    ensures settings { NamesDifferAcrossSettings }
+{}
+
+/// A first name has a `_` after it where its stem ends in a digit or is taken. Where digits are
+/// kept, it ends in them, unless they come after a `_` or after `_e` alone.
+pub fn digits_are_kept_where_asked()
+    ensures not_asked { DigitsAreSetApart }
+    ensures asked { DigitsAreKept }
 {}
 
 /// The identifiers given since a `Namer` began or was last reset, but to members of structs, follow

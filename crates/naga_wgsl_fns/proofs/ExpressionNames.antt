@@ -23,33 +23,33 @@ name_at start earlier (label ∷ labels) (suc k) =
     (append_assoc earlier (label ∷ []) (take k labels))
 
 -- uses are nothing to names
-same_names : (new : Names) (earlier labels : List (List ℕ)) → HasOtherUses wgsl_names new →
-    (k : ℕ) → name_of_label new earlier labels k ≡ name_of_label wgsl_names earlier labels k
-same_names new earlier labels words k = ap (λ n. name_of_label n earlier labels k) words
+same_names : (m : Module) (new : Names) (earlier labels : List (List ℕ)) → HasOtherUses (wgsl_names m) new →
+    (k : ℕ) → name_of_label new earlier labels k ≡ name_of_label (wgsl_names m) earlier labels k
+same_names m new earlier labels words k = ap (λ n. name_of_label n earlier labels k) words
 
 -- ---- counts
 -- a namer with the words of WGSL counts its labels
-pub few_named : (labels : List (List ℕ)) (namer : Names) → HasOtherUses wgsl_names namer →
-    HasNamed namer labels →
-    (stem : List ℕ) → labels_with_stem wgsl_names labels stem ≤ 2 ^ 32
-few_named labels namer words has stem =
+pub few_named : (m : Module) (labels : List (List ℕ)) (namer : Names) →
+    HasOtherUses (wgsl_names m) namer → HasNamed namer labels →
+    (stem : List ℕ) → labels_with_stem (wgsl_names m) labels stem ≤ 2 ^ 32
+few_named m labels namer words has stem =
     subst (λ n. n ≤ 2 ^ 32) (ap (λ n. labels_with_stem n labels stem) words) (has.few stem)
 
 -- ---- the names of a function
 module _ (m : Module) (handle : ℕ) (earlier : List (List ℕ)) where
   -- those that a namer gave after these labels
-  pub named_are : (old : Names) → HasOtherUses wgsl_names old → (names : List (List ℕ)) →
+  pub named_are : (old : Names) → HasOtherUses (wgsl_names m) old → (names : List (List ℕ)) →
       names ≡ names_following old earlier (labels_named_in m handle) → (k : ℕ) →
-      get_or names k [] ≡ name_of_label wgsl_names earlier (labels_named_in m handle) k
+      get_or names k [] ≡ name_of_label (wgsl_names m) earlier (labels_named_in m handle) k
   named_are old words names is k =
       ap (λ ls. get_or ls k []) is
       ∙ (name_at old earlier (labels_named_in m handle) k
-      ∙ same_names old earlier (labels_named_in m handle) words k)
+      ∙ same_names m old earlier (labels_named_in m handle) words k)
 
   -- where it has named them all, none of them is full
-  pub none_full : (namer : Names) → HasOtherUses wgsl_names namer →
+  pub none_full : (namer : Names) → HasOtherUses (wgsl_names m) namer →
       HasNamed namer (earlier ++ labels_named_in m handle) →
       ExpressionNamesAreFullIn m earlier handle → ⊥
   none_full namer words has full =
-      counted_none_full wgsl_names earlier (labels_named_in m handle)
-      (few_named (earlier ++ labels_named_in m handle) namer words has) full
+      counted_none_full (wgsl_names m) earlier (labels_named_in m handle)
+      (few_named m (earlier ++ labels_named_in m handle) namer words has) full

@@ -217,7 +217,7 @@ module _ (explicit : Bool) (m : Module) (info : ModuleInfo) (accepted : IsTrue (
     labels_are : expression_labels f ≡ labels_named_in m i
     labels_are = sym (ap (λ o. option_map_or expression_labels o []) stands)
 
-    pub full_is : (namer : Names) → HasOtherUses wgsl_names namer →
+    pub full_is : (namer : Names) → HasOtherUses (wgsl_names m) namer →
         SomeLabelIsFull namer earlier (expression_labels f) → ExpressionNamesAreFullIn m earlier i
     full_is namer words full = record {
       named = full.named;
@@ -229,7 +229,7 @@ module _ (explicit : Bool) (m : Module) (info : ModuleInfo) (accepted : IsTrue (
     }
 
     -- and the other way round
-    pub is_full : (namer : Names) → HasOtherUses wgsl_names namer →
+    pub is_full : (namer : Names) → HasOtherUses (wgsl_names m) namer →
         ExpressionNamesAreFullIn m earlier i → SomeLabelIsFull namer earlier (expression_labels f)
     is_full namer words full = record {
       named = full.named;
@@ -240,7 +240,7 @@ module _ (explicit : Bool) (m : Module) (info : ModuleInfo) (accepted : IsTrue (
           (label_stem n full.label)) words ∙ full.full;
     }
 
-    for_names : (namer : Names) → HasOtherUses wgsl_names namer → (error : NamerError) (it : Construct)
+    for_names : (namer : Names) → HasOtherUses (wgsl_names m) namer → (error : NamerError) (it : Construct)
         (reported : Error) → IsRefusalOfLabels namer earlier (expression_labels f) error →
         IsConstructOfNames error it → IsToldAs it reported → IsPlanRefusal explicit m info earlier i reported
     for_names namer words namer_error.Full it reported refusal is told =
@@ -265,7 +265,7 @@ module _ (explicit : Bool) (m : Module) (info : ModuleInfo) (accepted : IsTrue (
     }
 
     pub plan_refusal : (es : List ExpressionInfo) → slice_get (all_infos info) i ≡ Some es →
-        (namer : Names) → HasOtherUses wgsl_names namer → HasNamed namer earlier →
+        (namer : Names) → HasOtherUses (wgsl_names m) namer → HasNamed namer earlier →
         (error : PlanError) (it : Construct) (reported : Error) →
         IsRefusalToPlanOf explicit m info i namer error → IsConstructOf m f es error it →
         IsToldAs it reported → IsPlanRefusal explicit m info earlier i reported
@@ -319,14 +319,14 @@ module _ (explicit : Bool) (m : Module) (info : ModuleInfo) (accepted : IsTrue (
     plan_refusal es at namer words has (plan_error.Memory e) it reported refusal is told = absurd is
 
     -- what is told of a construct for which it has no plan
-    pub unplanned_refusal : (namer : Names) → HasOtherUses wgsl_names namer → HasNamed namer earlier →
+    pub unplanned_refusal : (namer : Names) → HasOtherUses (wgsl_names m) namer → HasNamed namer earlier →
         (it : Construct) (at : FunctionRefusalPosition) → IsRefusedFor explicit m info i namer it at →
         (reported : Error) → IsToldAs it reported → IsPlanRefusal explicit m info earlier i reported
     unplanned_refusal namer words has it at r reported told =
         plan_refusal known.0 known.1 namer words has r.error it reported r.refused
         (r.construct f known.0 stands known.1) told
 
-    pub unplanned_told : (namer : Names) → HasOtherUses wgsl_names namer → HasNamed namer earlier →
+    pub unplanned_told : (namer : Names) → HasOtherUses (wgsl_names m) namer → HasNamed namer earlier →
         (u : Unplanned) (reported : Error) → IsUnplanned explicit m info i namer u → TellsUnplanned u reported →
         IsPlanRefusal explicit m info earlier i reported
     unplanned_told namer words has (unplanned.Refused it at) reported r told =

@@ -298,13 +298,13 @@ module _ (m : Module) (info : ModuleInfo) (flags : WriterFlags) (earlier : List 
       k < length (expression_labels f) → IsIdentifier (named_following m earlier g k)
   identifiers f stands k lt =
       let label = element (expression_labels f) k lt in
-      let same = ap (λ o. name_of_label wgsl_names earlier (option_map_or expression_labels o []) k) stands in
-      let name = ap (λ o. option_map_or (name_after wgsl_names (earlier ++ take k (expression_labels f))) o [])
+      let same = ap (λ o. name_of_label (wgsl_names m) earlier (option_map_or expression_labels o []) k) stands in
+      let name = ap (λ o. option_map_or (name_after (wgsl_names m) (earlier ++ take k (expression_labels f))) o [])
       label.1 in
-      subst IsIdentifier (sym (same ∙ name)) (is_identifier (earlier ++ take k (expression_labels f)) label.0)
+      subst IsIdentifier (sym (same ∙ name)) (is_identifier m (earlier ++ take k (expression_labels f)) label.0)
 
   module _ (accepted : IsTrue (is_accepted m info)) (head : HeadHasForm m g)
-      (there : IsFunctionOf ty m) (old new : Names) (words : HasOtherUses wgsl_names old)
+      (there : IsFunctionOf ty m) (old new : Names) (words : HasOtherUses (wgsl_names m) old)
       (has : HasNamed old earlier) (planned : Planned) (plan : IsPlanOf explicit m info g planned)
       (named : NamesLabels old [] labels new planned.named) where
     within : g < length (all_functions m)
@@ -332,7 +332,7 @@ module _ (m : Module) (info : ModuleInfo) (flags : WriterFlags) (earlier : List 
         ap (λ names. text_under m info flags names g)
         (λ i number. named_are m g earlier old words planned.named (named.names earlier has) number i)
 
-    new_words : HasOtherUses wgsl_names new
+    new_words : HasOtherUses (wgsl_names m) new
     new_words = named.words ∙ ap (λ (o : Names). record o { uses = new.uses }) words
 
     new_named : HasNamed new (earlier ++ labels)

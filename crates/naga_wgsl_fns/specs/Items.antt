@@ -53,11 +53,11 @@ use Rattle.naga_refusals.specs.declared.error.Error.TheVariants.{FmtError, Memor
 -- others after them
 pub record HasNamedItemsOf (m : Module) (namer : Names) : Type 0 where
   pub later : List (List ℕ)
-  pub named : HasNamedLabels (item_labels m ++ later) namer
+  pub named : HasNamedLabels m (item_labels m ++ later) namer
 
 -- the names that front ends gave in the function, where these labels were named before
 abbrev pub named_following : Module → (earlier : List (List ℕ)) → (number label : ℕ) → List ℕ
-named_following m earlier number = name_of_label wgsl_names earlier (labels_named_in m number)
+named_following m earlier number = name_of_label (wgsl_names m) earlier (labels_named_in m number)
 
 -- the text of the function under these names
 abbrev pub text_after :

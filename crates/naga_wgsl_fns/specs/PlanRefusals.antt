@@ -46,7 +46,7 @@ use Rattle.naga_wgsl_shared.specs.Refusals.{NamesExpression, NamesType}
 -- after these earlier labels, since so many of them have one base
 abbrev pub ExpressionNamesAreFullIn : Module → (earlier : List (List ℕ)) → (number : ℕ) → Type 0
 ExpressionNamesAreFullIn m earlier number =
-    SomeLabelIsFull wgsl_names earlier (labels_named_in m number)
+    SomeLabelIsFull (wgsl_names m) earlier (labels_named_in m number)
 
 -- ---- what has no form in a function
 -- a statement without a form stands in the function with this number, and is named
@@ -190,7 +190,8 @@ IsMemoryOf (Unnamed (namer_error.Memory e)) wanting = e ≡ wanting
 IsMemoryOf (plan_error.Memory e) wanting = e ≡ wanting
 IsMemoryOf error wanting = ⊥
 
--- the namer has the words and prefixes of WGSL, and has named these labels
-pub record HasNamedLabels (earlier : List (List ℕ)) (namer : Names) : Type 0 where
-  pub words : HasOtherUses wgsl_names namer
+-- the namer has the words and prefixes of WGSL, keeps digits where the module says so, and has named
+-- these labels
+pub record HasNamedLabels (m : Module) (earlier : List (List ℕ)) (namer : Names) : Type 0 where
+  pub words : HasOtherUses (wgsl_names m) namer
   pub labels : HasNamed namer earlier

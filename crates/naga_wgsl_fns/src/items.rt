@@ -110,7 +110,7 @@ fn write_by_plan<W: TextSink>(
     requires there { IsFunctionOf ty.now «module».now }
     requires head { HeadHasForm «module».now (function_number «module».now ty.now) }
     requires names { HasNamesOf «module».now (names_in names.now) }
-    requires words { HasOtherUses wgsl_names namer.old }
+    requires words { HasOtherUses (wgsl_names «module».now) namer.old }
     ensures function { (earlier : List (List ℕ)) → HasNamed namer.old earlier →
         FunctionWriting «module».now info.now flags earlier ty.now result namer.new
         (W.text out.old) (W.text out.new) (W.failures out.old) (W.failures out.new) }

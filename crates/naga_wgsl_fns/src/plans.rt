@@ -59,7 +59,7 @@ pub fn plan_of<'a>(
     requires there { IsFunctionOf ty.now «module».now }
     requires tables { AreTablesOf «module».now tables.now }
     requires names { HasNamesOf «module».now (names_in names.now) }
-    requires words { HasOtherUses wgsl_names namer.old }
+    requires words { HasOtherUses (wgsl_names «module».now) namer.old }
     ensures ok { IfOk result (IsPlanOf (annotates_types flags) «module».now info.now
         (function_number «module».now ty.now)) }
     ensures named { IfOk result (λ p. NamesLabels namer.old []

@@ -18,31 +18,15 @@ use Rattle.module_limits.specs.declared.limits.Limits.{Limits}
 use Rattle.module_semantics.specs.acceptance.Accepted.{is_accepted}
 use Rattle.naga_wgsl_out.specs.Checked.{IsCounted}
 use Rattle.naga_wgsl_out.specs.Leaving.{Leaves, LeavesOnError}
-use Rattle.naga_wgsl_out.specs.ModuleRefusals.{ItemsAreFull}
-use Rattle.naga_wgsl_out.specs.Within.{AnswersBounded, AnswersWithin, IsTextWithin, TellsBounded}
+use Rattle.naga_wgsl_out.specs.ModuleRefusals.{ItemsAreFull, NeverBegins, NothingIsRefused}
+use Rattle.naga_wgsl_out.specs.Within.{AnswersBounded, AnswersWithin, IsPastBound, IsTextWithin}
+use Rattle.naga_wgsl_out.specs.Within.{TellsBounded}
 use Rattle.naga_wgsl_out.specs.Within.{unfailed}
 use Rattle.naga_wgsl_out.specs.declared.within.LimitedError.{LimitedError}
 use Rattle.naga_wgsl_out.specs.declared.within.LimitedError.TheVariants as limited
 use Rattle.naga_wgsl_out.specs.Writing.{AppendsItsText, written_text}
-use Rattle.naga_wgsl_out.proofs.Faithful.{leaves_beginning, refused}
-
--- a sink that began empty and is too long now tells that the whole text is
-pub whole_is_longer : (flags : WriterFlags) (m : Module) (info : ModuleInfo) (bound : ℕ)
-    (answer : Result Unit Error) (content now : List ℕ) → content ≡ [] →
-    AppendsItsText m info flags answer content now → OnErr answer (IsAfter content (written_text m info flags) now) →
-    bound < length now → bound < length (written_text m info flags)
-whole_is_longer flags m info bound (Ok tt) content now empty appends following past =
-    omega (arith, past, ap length appends, ap length empty, length-append content (written_text m info flags))
-whole_is_longer flags m info bound (Err error) content now empty appends following past =
-    omega (
-      arith,
-      past,
-      ap length following.2,
-      ap length following.3,
-      ap length empty,
-      length-append content following.0,
-      length-append following.0 following.1,
-    )
+use Rattle.naga_wgsl_out.proofs.Faithful.{refused}
+use Rattle.naga_wgsl_out.proofs.ModuleScopes.{each_writable}
 
 -- all that is promised of a text, under other names of the same
 text_within : (m : Module) (info : ModuleInfo) (bound : ℕ) (own flags : WriterFlags)
@@ -94,11 +78,13 @@ module _ (flags : WriterFlags) (m : Module) (info : ModuleInfo) (content now : L
       refused flags m info _ content now 0 0 f.refusals
   faithful_unfailed (Err (error.Unsupported kind value)) f = refused flags m info _ content now 0 0 f.refusals
 
-  -- want of memory leaves a beginning of the text
-  leaves_wanting : (e : _) → IsAfter content (written_text m info flags) now →
+  -- want of memory leaves what a failure of the sink leaves
+  leaves_wanting : (e : _) (failed : Error) → LeavesOnError flags m info failed content now before after →
       LeavesOnError flags m info (error.Memory e) content now 0 0
-  leaves_wanting e following = record {
-    following = following;
+  leaves_wanting e failed leaves = record {
+    following = leaves.following;
+    in_front = leaves.in_front;
+    unbegun = leaves.unbegun;
     untouched = λ comes. absurd comes.0;
     keys = λ tells. absurd tells;
     written_before = λ of. absurd (tells_nothing of.tells);
@@ -119,6 +105,8 @@ module _ (flags : WriterFlags) (m : Module) (info : ModuleInfo) (content now : L
     untouched = leaves.untouched;
     keys = leaves.keys;
     written_before = leaves.written_before;
+    in_front = leaves.in_front;
+    unbegun = leaves.unbegun;
     unfailed = λ tells. refl;
     told = leaves.told;
   }
@@ -127,13 +115,51 @@ module _ (flags : WriterFlags) (m : Module) (info : ModuleInfo) (content now : L
   pub leaves_unfailed : (answer : Result Unit Error) → Leaves flags m info answer content now before after →
       Leaves flags m info (unfailed answer) content now 0 0
   leaves_unfailed (Ok x) leaves = refl
-  leaves_unfailed (Err (error.FmtError e)) leaves = leaves_wanting alloc_error leaves.following
+  leaves_unfailed (Err (error.FmtError e)) leaves = leaves_wanting alloc_error (error.FmtError e) leaves
   leaves_unfailed (Err (error.Memory e)) leaves = leaves_told (error.Memory e) leaves
   leaves_unfailed (Err (error.Custom text)) leaves = leaves_told (error.Custom text) leaves
   leaves_unfailed (Err (error.Unimplemented text)) leaves = leaves_told (error.Unimplemented text) leaves
   leaves_unfailed (Err (error.UnsupportedRelationalFunction fun)) leaves =
       leaves_told (error.UnsupportedRelationalFunction fun) leaves
   leaves_unfailed (Err (error.Unsupported kind value)) leaves = leaves_told (error.Unsupported kind value) leaves
+
+-- ---- a text that is too long
+
+-- after what is empty stand at least as many bytes as of what is a beginning of them
+beginning_is_shorter : (content whole now : List ℕ) (bound : ℕ) → content ≡ [] → IsAfter content whole now →
+    bound < length now → bound < length whole
+beginning_is_shorter content whole now bound empty following past =
+    omega (
+      arith,
+      past,
+      ap length following.2,
+      ap length following.3,
+      ap length empty,
+      length-append content following.0,
+      length-append following.0 following.1,
+    )
+
+pub past_bound : (flags : WriterFlags) (m : Module) (info : ModuleInfo) (bound : ℕ)
+    (answer : Result Unit Error) (content now : List ℕ) (before after : ℕ) → content ≡ [] →
+    FaithfulWriting flags m info answer content now before after → AppendsItsText m info flags answer content now →
+    Leaves flags m info answer content now before after → bound < length now → IsPastBound flags bound m info
+past_bound flags m info bound (Ok tt) content now before after empty faithful appends leaves past =
+    let all = faithful.refusals in
+    record {
+      longer = omega (arith, past, ap length appends, ap length empty, length-append content (written_text m info flags));
+      in_front = λ handle fails. absurd (fails (each_writable (annotates_types flags) m info all handle));
+      begins = λ never. begun all never;
+    }
+  where
+    begun : NothingIsRefused (annotates_types flags) m info → NeverBegins m → ⊥
+    begun all (inl undeclared) = undeclared all.declarations
+    begun all (inr (inl full)) = all.nameable (inl full)
+    begun all (inr (inr key)) = all.keys key
+past_bound flags m info bound (Err error) content now before after empty faithful appends leaves past = record {
+  longer = beginning_is_shorter content (written_text m info flags) now bound empty leaves.following past;
+  in_front = λ handle fails. beginning_is_shorter content _ now bound empty (leaves.in_front handle fails) past;
+  begins = λ never. absurd (let none : length now ≡ 0 = ap length (leaves.unbegun never ∙ empty) in omega (arith, past, none));
+}
 
 -- what is told of the writer's answer is so of the module: the writer had these flags, and its sink
 -- this content before, held this after, and has not failed
@@ -155,22 +181,28 @@ answers_bounded flags own m info bound answer content held now (Ok text) same em
     (subst (λ t. length t ≤ bound) (sym tells.1) tells.2)
 answers_bounded flags own m info bound answer content held now (Err limited.TooLong) same empty taken faithful
     matches appends leaves tells =
-    subst (λ f. bound < length (written_text m info f)) same
-    (whole_is_longer own m info bound answer content held empty appends
-    (leaves_beginning own m info answer content held 0 0 leaves) (omega (arith, tells, ap length taken)))
+    subst (λ f. IsPastBound f bound m info) same
+    (past_bound own m info bound answer content held 0 0 empty faithful appends leaves
+    (omega (arith, tells, ap length taken)))
 answers_bounded flags own m info bound answer content held now (Err (limited.Refused error)) same empty taken
     faithful matches appends leaves tells =
+    let within : length held ≤ bound = omega (arith, tells.1, ap length taken) in
+    let refused : FaithfulWriting flags m info (Err error) [] held 0 0 =
+    subst (λ f. FaithfulWriting f m info (Err error) [] held 0 0) same
+    (subst (λ c. FaithfulWriting own m info (Err error) c held 0 0) empty
+    (subst (λ a. FaithfulWriting own m info a content held 0 0) tells.0 faithful)) in
+    let left : LeavesOnError flags m info error [] held 0 0 =
+    subst (λ f. Leaves f m info (Err error) [] held 0 0) same
+    (subst (λ c. Leaves own m info (Err error) c held 0 0) empty
+    (subst (λ a. Leaves own m info a content held 0 0) tells.0 leaves)) in
     record {
+      reason = refused.refusals;
+      told = left.told;
+      written_before = λ of. record { before = held; written = left.written_before of; within = within };
       beginning = held;
-      within = omega (arith, tells.1, ap length taken);
-      faithful =
-          subst (λ f. FaithfulWriting f m info (Err error) [] held 0 0) same
-          (subst (λ c. FaithfulWriting own m info (Err error) c held 0 0) empty
-          (subst (λ a. FaithfulWriting own m info a content held 0 0) tells.0 faithful));
-      leaves =
-          subst (λ f. Leaves f m info (Err error) [] held 0 0) same
-          (subst (λ c. Leaves own m info (Err error) c held 0 0) empty
-          (subst (λ a. Leaves own m info a content held 0 0) tells.0 leaves));
+      within = within;
+      faithful = refused;
+      leaves = left;
     }
 answers_bounded flags own m info bound answer content held now (Err (limited.TooDeep nested)) same empty taken
     faithful matches appends leaves tells = absurd tells

@@ -22,7 +22,7 @@ use Rattle.module_semantics.specs.Faithful.{HasInterfaceOf, RunsAs}
 use Rattle.naga_form.proofs.statements.WrittenLets.{binds_as}
 use Rattle.naga_form.proofs.Runs.{runs_as}
 use Rattle.naga_spelling.specs.Sink.{IsAfter}
-use Rattle.naga_words.proofs.Writing.{after_then}
+use Rattle.naga_words.proofs.Writing.{after_first, after_then}
 use Rattle.naga_wgsl_fns.proofs.SingleFunctions.{same_following}
 use Rattle.naga_wgsl_shared.proofs.Appending.{stopped_first, stopped_then, wrote_then}
 use Rattle.naga_wgsl_shared.specs.Appends.{StoppedWithin, Wrote}
@@ -32,21 +32,21 @@ use Rattle.naga_refusals.specs.declared.error.Error.TheVariants.{FmtError, Custo
 use Rattle.naga_refusals.specs.declared.error.Error.TheVariants.{Memory}
 use Rattle.naga_back.specs.declared.flags.WriterFlags.{WriterFlags}
 use Rattle.naga_back.specs.Flags.{annotates_types}
-use Rattle.naga_wgsl_out.specs.Writing.{HasPlan, MetNoPlan, WritesFunctions, WroteFunctions}
+use Rattle.naga_wgsl_out.specs.Writing.{HasPlan, MetNoPlan, StaysInFront, WritesFunctions, WroteFunctions}
 use Rattle.naga_wgsl_out.specs.Writing.{WroteFunctionsBefore, front_text, spaced_functions_before}
 use Rattle.naga_wgsl_out.specs.Writing.{spaced_module, AppendsItsText, written_text}
-use Rattle.naga_wgsl_out.proofs.Functions.{lines_after, lines_split, written_lines}
+use Rattle.naga_wgsl_out.proofs.Functions.{lines_after, lines_split, met_in_front, written_lines}
 use Rattle.naga_wgsl_out.proofs.ModuleScopes.{all_planned_counted, all_planned_formed}
 use Rattle.naga_wgsl_out.proofs.ModuleScopes.{all_planned_hold, reason_refuses, reason_reported}
 use Rattle.naga_wgsl_fns.specs.PlanRefusals.{TellsOfForm, TellsOfFullNamer, TellsOfScope}
 use Rattle.naga_refusals.specs.Errors.{TellsOfModule}
 use Rattle.naga_wgsl_out.specs.ModuleRefusals.{ComesBeforeText, HasAllNames, IsNamesRefusal}
-use Rattle.naga_wgsl_out.specs.ModuleRefusals.{ItemsAreFull, IsRefusal, NamerIsFull}
+use Rattle.naga_wgsl_out.specs.ModuleRefusals.{ItemsAreFull, IsRefusal, NamerIsFull, NeverBegins}
 use Rattle.naga_wgsl_out.specs.ModuleRefusals.{TellsOfFunction}
 use Rattle.naga_wgsl_out.proofs.ExpressionNames.{none_past}
 use Rattle.naga_wgsl_out.proofs.ReportedNames.{keys_come_first}
 use Rattle.naga_wgsl_out.specs.Headline.{EachReading, FaithfulWriting, MatchesModule}
-use Rattle.naga_wgsl_out.specs.Leaving.{Leaves, LeavesOnError}
+use Rattle.naga_wgsl_out.specs.Leaving.{EndsInFront, Leaves, LeavesOnError}
 use Rattle.naga_wgsl_out.specs.Unwritable.{TellsFirst}
 
 -- where nothing was written
@@ -59,15 +59,19 @@ on_error : (flags : WriterFlags) (m : Module) (info : ModuleInfo) (error : Error
     IsAfter content (written_text m info flags) now → (ComesBeforeText m error → now ≡ content) →
     (TellsOfFunction m error →
     WroteFunctionsBefore m info flags (content ++ front_text m info flags) now) →
+    EndsInFront flags m info content now → (NeverBegins m → now ≡ content) →
     (TellsOfModule error → after ≡ before) →
     (TellsOfModule error → TellsFirst (annotates_types flags) m info error) →
     LeavesOnError flags m info error content now before after
-on_error flags m info error content now before after following untouched written_before unfailed told =
+on_error flags m info error content now before after following untouched written_before in_front unbegun unfailed
+    told =
     record {
       following = following;
       untouched = untouched;
       keys = λ of. untouched (keys_come_first m error of);
       written_before = written_before;
+      in_front = in_front;
+      unbegun = unbegun;
       unfailed = unfailed;
       told = told;
     }
@@ -82,15 +86,8 @@ leaves_untouched flags m info content failed (Ok x) error is none told = refl
 leaves_untouched flags m info content failed (Err e) error is none told =
     subst (λ e. LeavesOnError flags m info e content content failed failed) (sym is)
     (on_error flags m info error content content failed failed (after_nothing content _)
-    (λ first. refl) (λ of. absurd (none of)) (λ of. refl) told)
-
--- it leaves a beginning of the text
-pub leaves_beginning : (flags : WriterFlags) (m : Module) (info : ModuleInfo)
-    (r : Result Unit Error) (content now : List ℕ) (before after : ℕ) →
-    Leaves flags m info r content now before after →
-    OnErr r (IsAfter content (written_text m info flags) now)
-leaves_beginning flags m info (Ok x) content now before after leaves = tt
-leaves_beginning flags m info (Err e) content now before after leaves = leaves.following
+    (λ first. refl) (λ of. absurd (none of)) (λ handle fails. after_nothing content _) (λ never. refl) (λ of. refl)
+    told)
 
 -- a refusal
 pub refused : (flags : WriterFlags) (m : Module) (info : ModuleInfo) (error : Error)
@@ -186,14 +183,20 @@ module _ (m : Module) (info : ModuleInfo) (flags : WriterFlags)
       by None past = none_past m full.0 past full.1
       by (Some f) at = (planned full.0 (slice_get_within (all_functions m) full.0 f at)).nameable full.1
 
+  -- and a text begins
+  begins : NeverBegins m → ⊥
+  begins (inl undeclared) = undeclared declarations
+  begins (inr (inl full)) = has.nameable full
+  begins (inr (inr key)) = has.keys key
+
   same_text : front ++ spaced_module m info flags ≡ written_text m info flags
   same_text = written_lines m info flags accepted
 
   module _ (content now : List ℕ) (before after : ℕ) where
     -- memory or the sink stopped it
     stopped : (e : Error) → StoppedWithin content before (front ++ spaced_module m info flags) now after e →
-        Concludes (Err e) content now before after
-    stopped e s = record {
+        EndsInFront flags m info content now → Concludes (Err e) content now before after
+    stopped e s in_front = record {
       is_faithful = refused flags m info e content now before after
           (for_want explicit m info e before after s.reason);
       matches = tt;
@@ -204,6 +207,7 @@ module _ (m : Module) (info : ModuleInfo) (flags : WriterFlags)
           (subst (λ t. IsAfter content t now) same_text s.following)
           (λ first. absurd (none first.0))
           (λ of. absurd (none (function_tells_of_module m e of)))
+          in_front (λ never. absurd (begins never))
           (λ of. absurd (none of)) (λ of. absurd (none of));
     }
 
@@ -213,7 +217,8 @@ module _ (m : Module) (info : ModuleInfo) (flags : WriterFlags)
     concludes_in_front (Ok x) error is s = absurd is
     concludes_in_front (Err e) error is s =
         subst (λ e. Concludes (Err e) content now before after) (sym is)
-        (stopped error (stopped_first (spaced_module m info flags) s))
+        (stopped error (stopped_first (spaced_module m info flags) s)
+        (λ handle fails. after_first content front now (spaced_functions_before m info flags handle) s.following))
 
     -- after it
     module _ (middle : List ℕ) (among : ℕ) (stands : Wrote content before front middle among) where
@@ -255,6 +260,12 @@ module _ (m : Module) (info : ModuleInfo) (flags : WriterFlags)
             leaves = whole.kept;
           }
 
+      -- what stays in front of a function among the functions does so with what stands before them
+      ends_in_front : StaysInFront m info flags middle now → EndsInFront flags m info content now
+      ends_in_front stays =
+          λ handle fails. after_then content front middle (spaced_functions_before m info flags handle) now
+          stands.appended (stays handle fails)
+
       met_no_plan : (e : Error) → MetNoPlan m info flags middle among now after e →
           (TellsOfModule e → TellsFirst explicit m info e) →
           Concludes (Err e) content now before after
@@ -275,6 +286,7 @@ module _ (m : Module) (info : ModuleInfo) (flags : WriterFlags)
             (λ first. absurd (first.1
             (reason_reported explicit m info s.before.handle declarations has.nameable e s.tells s.reason)))
             (λ of. subst (λ t. WroteFunctionsBefore m info flags t now) stands.appended s.before)
+            (ends_in_front (met_in_front m info flags middle now s.before)) (λ never. absurd (begins never))
             (λ of. s.kept ∙ stands.kept) first_told;
       }
 
@@ -283,5 +295,5 @@ module _ (m : Module) (info : ModuleInfo) (flags : WriterFlags)
           IfErr r (λ e. TellsOfModule e → TellsFirst explicit m info e) →
           Concludes r content now before after
       concludes (Ok _) w told = wrote w
-      concludes (Err e) (inl s) told = stopped e (stopped_then stands s)
+      concludes (Err e) (inl s) told = stopped e (stopped_then stands s.stopped) (ends_in_front s.in_front)
       concludes (Err e) (inr s) told = met_no_plan e s told

@@ -56,6 +56,11 @@ use Rattle.naga_wgsl_out.specs.Declarations.{declarations_of, declarations_text}
 use Rattle.naga_wgsl_out.specs.Enables.{enables_text}
 use Rattle.naga_wgsl_out.proofs.DeclarationRows.{program_row}
 use Rattle.naga_wgsl_out.specs.ModuleRefusals.{HasNamedBefore, KeyIsOutOfRange}
+use Rattle.naga_spelling.specs.Sink.{IsAfter}
+use Rattle.naga_words.proofs.Writing.{after_first, after_then}
+use Rattle.naga_wgsl_fns.specs.PlanRefusals.{IsWritableAt}
+use Rattle.naga_wgsl_out.specs.Writing.{StaysInFront, StoppedAmong, StoppedNext, WroteFunctionsBefore}
+use native.Mathlib.Nat.{eq-or-lt_of_le, eq-zero-or-pos}
 use Rattle.naga_wgsl_out.specs.Writing.{HasNoPlan, HasPlan, IsNamedPlan, MetNoPlan, WritesFunctions}
 use Rattle.naga_wgsl_out.specs.Writing.{WritesNext, WroteFunctions, WroteNext, front_text, spaced_function_at}
 use Rattle.naga_wgsl_out.specs.Writing.{line_after, spaced_function, spaced_functions_before}
@@ -254,7 +259,7 @@ entry_points_have_keys m keys = by (nat_lt (2 ^ 16) (length m.entry_points.items
     by : (b : Bool) → nat_lt (2 ^ 16) (length m.entry_points.items) ≡ b →
         length m.entry_points.items ≤ 2 ^ 16
     by true lt =
-        absurd (keys (run_out_unfit wgsl_names m (inl (ltb-true (2 ^ 16) (length m.entry_points.items) lt))))
+        absurd (keys (run_out_unfit (wgsl_names m) m (inl (ltb-true (2 ^ 16) (length m.entry_points.items) lt))))
     by false is =
         let past = ltb-false (2 ^ 16) (length m.entry_points.items) is in omega (arith, past)
 
@@ -284,7 +289,7 @@ at_enumerated n (x ∷ fs) (suc i) f lt is =
 -- the answer of a call that ends with an error
 writes_err : {m : Module} {info : ModuleInfo} {flags : WriterFlags} {content now : List ℕ}
     {failed failures : ℕ} (r : Result Unit Error) {error : Error} → IsErrAnd r (λ e. e ≡ error) →
-    (StoppedWithin content failed (spaced_module m info flags) now failures error
+    (StoppedAmong m info flags content failed now failures error
     ⊎ MetNoPlan m info flags content failed now failures error) →
     WritesFunctions m info flags r content failed now failures
 writes_err (Ok x) is w = absurd is
@@ -317,6 +322,28 @@ lines_split m info flags n =
     let all = enumerate_from 0 (all_functions m) in
     sym (flat_map-append (spaced_function m info flags) (take n all) (drop n all))
     ∙ ap (spaced_functions m info flags) (take-append-drop n all)
+
+-- what stands in front of a function stands in front of one after it, and more
+front_more : (m : Module) (info : ModuleInfo) (flags : WriterFlags) (i k : ℕ) (content now : List ℕ) → i ≤ k →
+    IsAfter content (spaced_functions_before m info flags i) now →
+    IsAfter content (spaced_functions_before m info flags k) now
+front_more m info flags i k content now le following =
+    let all = enumerate_from 0 (all_functions m) in
+    let first : take i (take k all) ≡ take i all = take_of_take i k all le in
+    let split : spaced_functions_before m info flags i ++ spaced_functions m info flags (drop i (take k all))
+    ≡ spaced_functions_before m info flags k =
+    ap (λ fs. spaced_functions m info flags fs ++ spaced_functions m info flags (drop i (take k all))) (sym first)
+    ∙ sym (flat_map-append (spaced_function m info flags) (take i (take k all)) (drop i (take k all)))
+    ∙ ap (spaced_functions m info flags) (take-append-drop i (take k all)) in
+    subst (λ t. IsAfter content t now) split
+    (after_first content (spaced_functions_before m info flags i) now
+    (spaced_functions m info flags (drop i (take k all))) following)
+  where
+    take_of_take : {X : Type 0} (i k : ℕ) (xs : List X) → i ≤ k → take i (take k xs) ≡ take i xs
+    take_of_take zero k xs le = refl
+    take_of_take (suc i) zero xs le = absurd (omega (arith, le))
+    take_of_take (suc i) (suc k) [] le = refl
+    take_of_take (suc i) (suc k) (x ∷ xs) le = ap (λ t. x ∷ t) (take_of_take i k xs (omega (arith, le)))
 
 module _ (m : Module) (info : ModuleInfo) (flags : WriterFlags) {n : ℕ} {content middle : List ℕ}
     {failed among : ℕ} {namer : Names} (so_far : IsUpTo m info flags n content failed namer middle among) where
@@ -390,12 +417,46 @@ module _ (m : Module) (info : ModuleInfo) (flags : WriterFlags) {n : ℕ} {conte
 
     -- memory or the sink stopped it
     stopped_here : {error : Error} {now : List ℕ} {failures : ℕ} →
-        StoppedWithin middle among line now failures error →
-        StoppedWithin content failed (spaced_module m info flags) now failures error
-    stopped_here {error} {now} {failures} stopped =
+        StoppedNext m info flags n middle among now failures error →
+        StoppedAmong m info flags content failed now failures error
+    stopped_here {error} {now} {failures} s =
         let whole = ap (λ t. spaced_functions_before m info flags n ++ t) line_then ∙ lines_split m info flags n in
-        subst (λ t. StoppedWithin content failed t now failures error) whole
-        (stopped_then so_far.wrote (stopped_first (lines_after m info flags (n + 1)) stopped))
+        record {
+          stopped = subst (λ t. StoppedWithin content failed t now failures error) whole
+              (stopped_then so_far.wrote (stopped_first (lines_after m info flags (n + 1)) s.stopped));
+          in_front = λ handle fails. by handle fails s.planned;
+        }
+      where
+        no_sooner : (handle : ℕ) →
+            (IsWritableAt (annotates_types flags) m info (labels_before m handle) handle → ⊥) → n ≤ handle
+        no_sooner handle fails = elim (eq-zero-or-pos (n - handle)) [
+          | inl none ↦ omega (arith, none)
+          | inr below ↦
+              absurd (fails (has_plan_holds (annotates_types flags) m info handle
+              (so_far.planned handle (omega (arith, below)))))
+        ]
+
+        by : (handle : ℕ) →
+            (IsWritableAt (annotates_types flags) m info (labels_before m handle) handle → ⊥) →
+            ((now ≡ middle) ⊎ HasPlan (annotates_types flags) m info n) →
+            IsAfter content (spaced_functions_before m info flags handle) now
+        by handle fails (inl nothing) =
+            front_more m info flags n handle content now (no_sooner handle fails) (
+              spaced_functions_before m info flags n,
+              [],
+              sym (append-nil (spaced_functions_before m info flags n)),
+              nothing ∙ so_far.wrote.appended,
+            )
+        by handle fails (inr plan) = elim (eq-or-lt_of_le (no_sooner handle fails)) [
+          | inl same ↦
+              absurd (fails (subst (λ j. IsWritableAt (annotates_types flags) m info (labels_before m j) j) same
+              (has_plan_holds (annotates_types flags) m info n plan)))
+          | inr past ↦
+              front_more m info flags (n + 1) handle content now (omega (arith, past))
+              (subst (λ t. IsAfter content t now) one_more_line
+              (after_then content (spaced_functions_before m info flags n) middle line now so_far.wrote.appended
+              s.stopped.following))
+        ]
 
     -- it has no plan
     unplanned : {error : Error} {now : List ℕ} {failures : ℕ} →
@@ -415,11 +476,26 @@ module _ (m : Module) (info : ModuleInfo) (flags : WriterFlags) {n : ℕ} {conte
 
     pub up_to_failed : (r : Result Unit Error) (error : Error) {now : List ℕ} {failures : ℕ} →
         IsErrAnd r (λ e. e ≡ error) →
-        (StoppedWithin middle among line now failures error
+        (StoppedNext m info flags n middle among now failures error
         ⊎ HasNoPlan m info flags n middle among now failures error) →
         WritesFunctions m info flags r content failed now failures
     up_to_failed r error reported (inl stopped) = writes_err r reported (inl (stopped_here stopped))
     up_to_failed r error reported (inr none) = writes_err r reported (inr (unplanned none))
+
+-- what stands in front of the first function that can't be written stands in front of each such one
+pub met_in_front : (m : Module) (info : ModuleInfo) (flags : WriterFlags) (content now : List ℕ) →
+    WroteFunctionsBefore m info flags content now → StaysInFront m info flags content now
+met_in_front m info flags content now w handle fails =
+    front_more m info flags w.handle handle content now (no_sooner (eq-zero-or-pos (w.handle - handle))) (
+      spaced_functions_before m info flags w.handle,
+      [],
+      sym (append-nil (spaced_functions_before m info flags w.handle)),
+      w.written,
+    )
+  where
+    no_sooner : (w.handle - handle ≡ 0) ⊎ (0 < w.handle - handle) → w.handle ≤ handle
+    no_sooner (inl none) = omega (arith, none)
+    no_sooner (inr below) = absurd (fails (w.hold handle (omega (arith, below))))
 
 -- ---- one function
 module _ (m : Module) (info : ModuleInfo) (flags : WriterFlags) (n : ℕ) (content : List ℕ)
@@ -427,7 +503,7 @@ module _ (m : Module) (info : ModuleInfo) (flags : WriterFlags) (n : ℕ) (conte
   -- the answer of a call that ends with an error
   pub next_err : (r : Result Unit Error) (error : Error) (namer : Names) {now : List ℕ}
       {failures : ℕ} → IsErrAnd r (λ e. e ≡ error) →
-      (StoppedWithin content failed (spaced_function_at m info flags n) now failures error
+      (StoppedNext m info flags n content failed now failures error
       ⊎ HasNoPlan m info flags n content failed now failures error) →
       WritesNext m info flags n namer r content failed now failures
   next_err (Ok x) error namer reported w = absurd reported
@@ -438,11 +514,14 @@ module _ (m : Module) (info : ModuleInfo) (flags : WriterFlags) (n : ℕ) (conte
   -- where it has no plan
   pub no_plan : (error : Error) →
       IsPlanRefusal (annotates_types flags) m info (labels_before m n) n error →
-      StoppedWithin content failed (spaced_function_at m info flags n) content failed error
+      StoppedNext m info flags n content failed content failed error
       ⊎ HasNoPlan m info flags n content failed content failed error
   no_plan (Memory e) refusal = inl (record {
-    following = ([], spaced_function_at m info flags n, refl, sym (append-nil content));
-    reason = tt;
+    stopped = record {
+      following = ([], spaced_function_at m info flags n, refl, sym (append-nil content));
+      reason = tt;
+    };
+    planned = inl refl;
   })
   no_plan _ refusal =
       inr (record { untouched = refl; kept = refl; tells = refusal.0; reason = refusal.1 })
@@ -460,14 +539,13 @@ module _ (m : Module) (info : ModuleInfo) (flags : WriterFlags) (n : ℕ) (conte
       named : IsNamedPlan (annotates_types flags) m info n next planned
       named = named_plan m (annotates_types flags) info n old next planned lt before plan names
 
+      has : HasPlan (annotates_types flags) m info n
+      has = record { planned = planned; plan = plan; nameable = none_full m n next lt named.namer_is }
+
       by : (r : Result Unit Error) → Appends r content failed (spaced_function_at m info flags n) now failures →
           WritesNext m info flags n next r content failed now failures
-      by (Ok x) wrote = record {
-        wrote = wrote;
-        planned = record { planned = planned; plan = plan; nameable = none_full m n next lt named.namer_is };
-        named = named.namer_is;
-      }
-      by (Err e) stopped = inl stopped
+      by (Ok x) wrote = record { wrote = wrote; planned = has; named = named.namer_is }
+      by (Err e) stopped = inl (record { stopped = stopped; planned = inr has })
 
 -- the same under a number that equals it
 module _ {m : Module} {info : ModuleInfo} {flags : WriterFlags} {a b : ℕ} (same : a ≡ b) where
@@ -484,11 +562,11 @@ module _ {m : Module} {info : ModuleInfo} {flags : WriterFlags} {a b : ℕ} (sam
       subst (λ n. WroteNext m info flags n namer content failed now failures) same w
 
   pub failed_as : {content now : List ℕ} {failed failures : ℕ} {error : Error} →
-      (StoppedWithin content failed (spaced_function_at m info flags a) now failures error
+      (StoppedNext m info flags a content failed now failures error
       ⊎ HasNoPlan m info flags a content failed now failures error) →
-      StoppedWithin content failed (spaced_function_at m info flags b) now failures error
+      StoppedNext m info flags b content failed now failures error
       ⊎ HasNoPlan m info flags b content failed now failures error
   failed_as {content} {now} {failed} {failures} {error} w =
       subst
-      (λ n. StoppedWithin content failed (spaced_function_at m info flags n) now failures error
+      (λ n. StoppedNext m info flags n content failed now failures error
       ⊎ HasNoPlan m info flags n content failed now failures error) same w

@@ -272,7 +272,7 @@ all_writable explicit m info names n namer declarations has is all = record {
 
 -- ---- labels of items
 -- why the items of a module get no names
-pub labels_stand : (m : Module) (error : NamerError) (it : Construct) → IsResetRefusal wgsl_names m error →
+pub labels_stand : (m : Module) (error : NamerError) (it : Construct) → IsResetRefusal (wgsl_names m) m error →
     IsConstructOfNames error it → StandsInLabels m it
 labels_stand m namer_error.Full it refused is = inl (refused, is)
 labels_stand m namer_error.KeyFull it refused is = inr (refused, is)

@@ -241,4 +241,4 @@ number_fits m keys h t at i s there = by (nat_lt i (2 ^ 32)) refl
         let within = slice_get_within (members_of t.inner) i s there in
         let long : HasLongStruct m =
         record { index = h; ty = t; there = at; long = omega (arith, past, within) } in
-        absurd (keys (run_out_unfit wgsl_names m (inr (inl long))))
+        absurd (keys (run_out_unfit (wgsl_names m) m (inr (inl long))))

@@ -10,9 +10,21 @@ use Rattle.naga_ir.specs.declared.module.Module.{Module}
 use Rattle.naga_refusals.specs.Errors.{TellsOfModule}
 use Rattle.naga_refusals.specs.declared.error.Error.{Error}
 use Rattle.naga_spelling.specs.Sink.{IsAfter}
-use Rattle.naga_wgsl_out.specs.ModuleRefusals.{ComesBeforeText, TellsOfFunction, TellsOfKeys}
+use Rattle.naga_wgsl_out.specs.ModuleRefusals.{ComesBeforeText, NeverBegins, TellsOfFunction}
+use Rattle.naga_wgsl_out.specs.ModuleRefusals.{TellsOfKeys}
 use Rattle.naga_wgsl_out.specs.Unwritable.{TellsFirst}
-use Rattle.naga_wgsl_out.specs.Writing.{WroteFunctionsBefore, front_text, written_text}
+use Rattle.module_semantics.specs.Names.{labels_before}
+use Rattle.naga_wgsl_fns.specs.PlanRefusals.{IsWritableAt}
+use Rattle.naga_wgsl_out.specs.Writing.{WroteFunctionsBefore, front_text}
+use Rattle.naga_wgsl_out.specs.Writing.{spaced_functions_before, written_text}
+
+-- A beginning stands there of what is in front of each function that can't be written, whatever ended
+-- the call.
+abbrev pub EndsInFront : WriterFlags → Module → ModuleInfo → (content now : List ℕ) → Type 0
+EndsInFront flags m info content now =
+    (handle : ℕ) →
+    (IsWritableAt (annotates_types flags) m info (labels_before m handle) handle → ⊥) →
+    IsAfter content (front_text m info flags ++ spaced_functions_before m info flags handle) now
 
 -- the call ended with this error
 pub record LeavesOnError (flags : WriterFlags) (m : Module) (info : ModuleInfo) (error : Error)
@@ -25,6 +37,10 @@ pub record LeavesOnError (flags : WriterFlags) (m : Module) (info : ModuleInfo) 
   -- where it tells of a function, what stands in front of that one
   pub written_before : TellsOfFunction m error →
       WroteFunctionsBefore m info flags (content ++ front_text m info flags) now
+  -- whatever it tells, nothing of a function that can't be written, nor of what comes after it,
+  pub in_front : EndsInFront flags m info content now
+  -- and nothing at all where no text of the module begins
+  pub unbegun : NeverBegins m → now ≡ content
   -- a sink that fails ends the call by an error of its own
   pub unfailed : TellsOfModule error → after ≡ before
   -- an error that tells of the module names a construct that stands there, and is the first that is

@@ -27,14 +27,14 @@ use Rattle.naga_refusals.specs.declared.error.Error.TheVariants.{Memory}
 -- those of some labels that front ends gave in a function, after all labels in front of them; or,
 -- of either, the key of an item is out of range
 abbrev pub ItemsAreFull : Module → Type 0
-ItemsAreFull m = SomeNameIsFull wgsl_names (labelled_items wgsl_names m)
+ItemsAreFull m = SomeNameIsFull (wgsl_names m) (labelled_items (wgsl_names m) m)
 
 abbrev pub NamerIsFull : Module → Type 0
 NamerIsFull m =
     ItemsAreFull m ⊎ ((handle : ℕ) × ExpressionNamesAreFullIn m (labels_before m handle) handle)
 
 abbrev pub KeyIsOutOfRange : Module → Type 0
-KeyIsOutOfRange m = SomeKeyIsFull (labelled_items wgsl_names m)
+KeyIsOutOfRange m = SomeKeyIsFull (labelled_items (wgsl_names m) m)
 
 -- what a `Custom` error says of names, and that it is so
 abbrev pub IsReportedOf : Module → (message : List ℕ) → Type 0
@@ -105,6 +105,11 @@ pub record NothingIsRefused (explicit : Bool) (m : Module) (info : ModuleInfo) :
   pub nameable : NamerIsFull m → ⊥
   pub keys : KeyIsOutOfRange m → ⊥
 
+-- No text of the module begins: a declaration has no form or a struct can't keep the offsets of its
+-- members, or its items can't all be named.
+abbrev pub NeverBegins : Module → Type 0
+NeverBegins m = (DeclarationsHaveForms m → ⊥) ⊎ (ItemsAreFull m ⊎ KeyIsOutOfRange m)
+
 -- an error has its reason, and where there is none no reason stands in the module
 abbrev pub RefusesOnlyFor : Result Unit Error → (explicit : Bool) → Module → ModuleInfo →
     (before now : ℕ) → Type 0
@@ -120,4 +125,4 @@ pub record HasAllNames (m : Module) (names : NameMap) : Type 0 where
 -- the namer has the words and prefixes of WGSL, and has named the labels of the module in front of
 -- those that front ends gave in this function
 abbrev pub HasNamedBefore : Module → (handle : ℕ) → Names → Type 0
-HasNamedBefore m handle namer = HasNamedLabels (labels_before m handle) namer
+HasNamedBefore m handle namer = HasNamedLabels m (labels_before m handle) namer

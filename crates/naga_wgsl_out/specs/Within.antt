@@ -2,11 +2,12 @@
 --
 -- Throughout, m is the module, old is what is known of it before the call, new after it, and info
 -- is what is known of it with its uses counted; bound is how many bytes a text may have.
-use Rattle.std.specs.Prelude.{◌≡◌, ◌<◌, ◌≤◌, ◌⊎◌, ℕ, List, [], Result, Ok, Err, None, Some}
+use Rattle.std.specs.Prelude.{◌≡◌, ◌<◌, ◌≤◌, ◌⊎◌, ◌++◌, ℕ, List, [], Result, Ok, Err, None, Some}
 use Rattle.std.specs.Prelude.{IsTrue, alloc_error, length, string_bytes}
 use Rattle.std.specs.declared.string.String.{String}
 use Rattle.module_limits.specs.Nesting.{nested_past}
 use Rattle.module_limits.specs.declared.limits.Limits.{Limits}
+use Rattle.module_semantics.specs.Names.{labels_before}
 use Rattle.module_semantics.specs.acceptance.Accepted.{is_accepted}
 use Rattle.naga_acceptance.specs.FirstFaults.{IsFirstFault}
 use Rattle.naga_acceptance.specs.declared.faults.Unaccepted.{Unaccepted}
@@ -14,12 +15,17 @@ use Rattle.naga_back.specs.Flags.{annotates_types}
 use Rattle.naga_back.specs.declared.flags.WriterFlags.{WriterFlags}
 use Rattle.naga_info.specs.declared.info.ModuleInfo.{ModuleInfo}
 use Rattle.naga_ir.specs.declared.module.Module.{Module}
+use Rattle.naga_refusals.specs.Errors.{TellsOfModule}
 use Rattle.naga_refusals.specs.declared.error.Error.{Error}
 use Rattle.naga_refusals.specs.declared.error.Error.TheVariants.{FmtError, Memory}
+use Rattle.naga_wgsl_fns.specs.PlanRefusals.{IsWritableAt}
 use Rattle.naga_wgsl_out.specs.Checked.{IsCounted}
 use Rattle.naga_wgsl_out.specs.Headline.{EachReading, FaithfulWriting, MatchesModule}
 use Rattle.naga_wgsl_out.specs.Leaving.{LeavesOnError}
-use Rattle.naga_wgsl_out.specs.Writing.{written_text}
+use Rattle.naga_wgsl_out.specs.ModuleRefusals.{IsRefusal, NeverBegins, TellsOfFunction}
+use Rattle.naga_wgsl_out.specs.Unwritable.{TellsFirst}
+use Rattle.naga_wgsl_out.specs.Writing.{WroteFunctionsBefore, front_text}
+use Rattle.naga_wgsl_out.specs.Writing.{spaced_functions_before, written_text}
 use Rattle.naga_wgsl_out.specs.declared.within.LimitedError.{LimitedError}
 use Rattle.naga_wgsl_out.specs.declared.within.LimitedError.TheVariants as limited
 
@@ -42,23 +48,46 @@ abbrev pub unfailed : Result Unit Error → Result Unit Error
 unfailed (Ok x) = Ok x
 unfailed (Err error) = Err (unfailed_error error)
 
--- the writer refused the module, or memory was wanting, after a text that was not too long, and what
--- it left is told as of each call of the writer whose sink has not failed
+-- what stands in front of the first function that can't be written is no longer than a text may be
+pub record IsFunctionWithin (flags : WriterFlags) (bound : ℕ) (m : Module) (info : ModuleInfo)
+    : Type 0 where
+  pub before : List ℕ
+  pub written : WroteFunctionsBefore m info flags (front_text m info flags) before
+  pub within : length before ≤ bound
+
+-- The writer refused the module, or memory was wanting, after a text that was not too long.
 pub record IsRefusedWithin (flags : WriterFlags) (bound : ℕ) (m : Module) (info : ModuleInfo)
     (error : Error) : Type 0 where
+  -- the reason stands in the module, and where the error tells of that, it is the first
+  pub reason : IsRefusal (annotates_types flags) m info 0 0 error
+  pub told : TellsOfModule error → TellsFirst (annotates_types flags) m info error
+  -- of a function, it tells where what stands in front of that one could be given
+  pub written_before : TellsOfFunction m error → IsFunctionWithin flags bound m info
+  -- What the writer left is as of each call of it whose sink has not failed.
   pub beginning : List ℕ
   pub within : length beginning ≤ bound
   pub faithful : FaithfulWriting flags m info (Err error) [] beginning 0 0
   pub leaves : LeavesOnError flags m info error [] beginning 0 0
 
--- What is answered of an accepted module. In particular a text is too long only where the module's
--- is; of a module that is refused that is the text with what stands after the point of the refusal.
+-- What was written of the module is too long, when it is all written or when the writer stopped. So
+-- is its text, and of a module that is refused, what stands in front of each function that can't be
+-- written.
+pub record IsPastBound (flags : WriterFlags) (bound : ℕ) (m : Module) (info : ModuleInfo)
+    : Type 0 where
+  pub longer : bound < length (written_text m info flags)
+  pub in_front : (handle : ℕ) →
+      (IsWritableAt (annotates_types flags) m info (labels_before m handle) handle → ⊥) →
+      bound < length (front_text m info flags ++ spaced_functions_before m info flags handle)
+  -- and such text begins at all
+  pub begins : NeverBegins m → ⊥
+
+-- what is answered of an accepted module
 abbrev pub AnswersBounded : {Y Fault : Type 0} → WriterFlags → (bound : ℕ) → Module →
     ModuleInfo → Result (String Y) (LimitedError Fault) → Type 0
 AnswersBounded flags bound m info (Ok text) =
     IsTextWithin flags bound m info (string_bytes text)
 AnswersBounded flags bound m info (Err limited.TooLong) =
-    bound < length (written_text m info flags)
+    IsPastBound flags bound m info
 AnswersBounded flags bound m info (Err (limited.Refused error)) =
     IsRefusedWithin flags bound m info error
 AnswersBounded flags bound m info (Err _) = ⊥

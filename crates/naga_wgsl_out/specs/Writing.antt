@@ -15,6 +15,7 @@ use Rattle.module_semantics.specs.FunctionNumbers.{all_functions, function_type}
 use Rattle.module_semantics.specs.Names.{expression_name, labels_before}
 use Rattle.naga_naming.specs.Naming.{Names}
 use Rattle.wgsl_text.specs.Reading.{printed_program}
+use Rattle.naga_spelling.specs.Sink.{IsAfter}
 use Rattle.naga_wgsl_shared.specs.Appends.{StoppedWithin, Wrote}
 use Rattle.naga_back.specs.Flags.{annotates_types}
 use Rattle.naga_wgsl_fns.specs.Functions.{known_of, text_of, text_of_function}
@@ -105,6 +106,14 @@ pub record WroteFunctionsBefore (m : Module) (info : ModuleInfo) (flags : Writer
       IsWritableAt (annotates_types flags) m info (labels_before m i) i
   pub written : now ≡ content ++ spaced_functions_before m info flags handle
 
+-- After what the sink held, nothing stands there of a function or an entry point that can't be written,
+-- nor of what comes after it.
+abbrev pub StaysInFront : Module → ModuleInfo → WriterFlags → (content now : List ℕ) → Type 0
+StaysInFront m info flags content now =
+    (handle : ℕ) →
+    (IsWritableAt (annotates_types flags) m info (labels_before m handle) handle → ⊥) →
+    IsAfter content (spaced_functions_before m info flags handle) now
+
 -- there is a plan of the function with this handle, which has names for its labels
 pub record HasPlan (explicit : Bool) (m : Module) (info : ModuleInfo) (handle : ℕ) : Type 0 where
   pub planned : Planned
@@ -125,6 +134,12 @@ pub record WroteNext (m : Module) (info : ModuleInfo) (flags : WriterFlags) (num
   pub planned : HasPlan (annotates_types flags) m info number
   pub named : HasNamedBefore m (number + 1) namer
 
+-- memory or the sink stopped it: nothing of the function stands there, or there is a plan of it
+pub record StoppedNext (m : Module) (info : ModuleInfo) (flags : WriterFlags) (number : ℕ)
+    (content : List ℕ) (failed : ℕ) (now : List ℕ) (failures : ℕ) (error : Error) : Type 0 where
+  pub stopped : StoppedWithin content failed (spaced_function_at m info flags number) now failures error
+  pub planned : (now ≡ content) ⊎ HasPlan (annotates_types flags) m info number
+
 -- it has no plan, and that is told
 pub record HasNoPlan (m : Module) (info : ModuleInfo) (flags : WriterFlags) (number : ℕ)
     (content : List ℕ) (failed : ℕ) (now : List ℕ) (failures : ℕ) (error : Error) : Type 0 where
@@ -139,7 +154,7 @@ abbrev pub WritesNext : Module → ModuleInfo → WriterFlags → (number : ℕ)
 WritesNext m info flags number namer (Ok _) content failed now failures =
     WroteNext m info flags number namer content failed now failures
 WritesNext m info flags number namer (Err error) content failed now failures =
-    StoppedWithin content failed (spaced_function_at m info flags number) now failures error
+    StoppedNext m info flags number content failed now failures error
     ⊎ HasNoPlan m info flags number content failed now failures error
 
 -- all functions stand after what the sink held, each written by a plan of it
@@ -147,6 +162,12 @@ pub record WroteFunctions (m : Module) (info : ModuleInfo) (flags : WriterFlags)
     (failed : ℕ) (now : List ℕ) (failures : ℕ) : Type 0 where
   pub wrote : Wrote content failed (spaced_module m info flags) now failures
   pub planned : (i : ℕ) → i < length (all_functions m) → HasPlan (annotates_types flags) m info i
+
+-- memory or the sink stopped it, in front of each function that can't be written
+pub record StoppedAmong (m : Module) (info : ModuleInfo) (flags : WriterFlags) (content : List ℕ)
+    (failed : ℕ) (now : List ℕ) (failures : ℕ) (error : Error) : Type 0 where
+  pub stopped : StoppedWithin content failed (spaced_module m info flags) now failures error
+  pub in_front : StaysInFront m info flags content now
 
 -- the first one without a plan was met, and told
 pub record MetNoPlan (m : Module) (info : ModuleInfo) (flags : WriterFlags) (content : List ℕ)
@@ -163,5 +184,5 @@ abbrev pub WritesFunctions : Module → ModuleInfo → WriterFlags → Result Un
 WritesFunctions m info flags (Ok _) content failed now failures =
     WroteFunctions m info flags content failed now failures
 WritesFunctions m info flags (Err error) content failed now failures =
-    StoppedWithin content failed (spaced_module m info flags) now failures error
+    StoppedAmong m info flags content failed now failures error
     ⊎ MetNoPlan m info flags content failed now failures error

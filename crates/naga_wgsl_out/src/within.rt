@@ -42,9 +42,9 @@ pub enum LimitedError<Fault = Unaccepted> {
 /// [`LimitedError::TooDeep`] comes where something of the module is nested deeper than
 /// `limits.nesting`, by [`nested_past`], if there is memory to find out; before anything else is
 /// asked of it, and before the stack is taken. [`LimitedError::TooLong`] comes only where the
-/// module's text has more than `limits.text` bytes; of a module that is refused that is the text with
-/// what stands after what it is refused for. A text that has more never comes: it is cut as soon as
-/// it is longer than the limit, so that it takes no more bytes than that and a chunk more, and no
+/// module's text has more than `limits.text` bytes, or of a module that is refused, what stands in
+/// front of the function that it is refused for. A text that has more never comes: it is cut as soon
+/// as it is longer than the limit, so that it takes no more bytes than that and a chunk more, and no
 /// more time.
 /// What is known of the module is as it was where it is nested too deep or not accepted; else its
 /// uses are counted, but where memory was wanting before.

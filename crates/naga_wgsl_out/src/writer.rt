@@ -320,7 +320,7 @@ pub(crate) fn items_named(
 ) -> Result<(HashMap<NameKey, String>, Namer), NamerError>
     ensures ok { IfOk result (λ r. HasAllNames «module».now (names_in r.0)) }
     ensures namer { IfOk result (λ r. HasNamedBefore «module».now 0 r.1) }
-    ensures err { IfErr result (IsResetRefusal wgsl_names «module».now) }
+    ensures err { IfErr result (IsResetRefusal (wgsl_names «module».now) «module».now) }
 {
     let mut names = HashMap::new(alloc);
     let mut namer = Namer::default(alloc);
@@ -337,7 +337,7 @@ fn reset_for_wgsl(
 ) -> Result<(), NamerError>
     ensures ok { OnOk result (HasAllNames «module».now (names_in names.new)) }
     ensures namer { OnOk result (HasNamedBefore «module».now 0 namer.new) }
-    ensures err { IfErr result (IsResetRefusal wgsl_names «module».now) }
+    ensures err { IfErr result (IsResetRefusal (wgsl_names «module».now) «module».now) }
 {
     let reserved = reserved_words(alloc);
     let builtin = builtin_words(alloc);

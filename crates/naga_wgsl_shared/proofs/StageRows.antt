@@ -1,6 +1,7 @@
 -- The texts of the stages of entry points, from what is written of them in turn.
 --
--- Throughout, m is a module, e an entry point of it, and front is what stands in front of a variable.
+-- Throughout, m is a module, e an entry point of it, front is what stands in front of a variable, and
+-- x, y and z are the parts of a workgroup's size.
 use Rattle.std.proofs.Common.{◌≡◌, ◌∙◌, ◌++◌, ℕ, List, [], ◌∷◌, append_assoc, ap, arith, codes}
 use Rattle.std.proofs.Common.{decimal, get_or, length, refl, slice_get, sym}
 use Rattle.std.specs.Prelude.{◌&&◌, Option, Some, None, IsTrue}
@@ -15,25 +16,29 @@ use Rattle.naga_ir.specs.declared.module.Module.{Module}
 use Rattle.naga_ir.specs.declared.module.ShaderStage.TheVariants as stage
 use Rattle.module_semantics.proofs.Lists.{list_all_at}
 use Rattle.module_semantics.specs.acceptance.Accepted.{is_accepted}
-use Rattle.module_semantics.specs.Names.{global_name, module_names}
+use Rattle.module_semantics.specs.Names.{global_name, module_names, override_name}
 use Rattle.module_semantics.specs.acceptance.AgreeingOperators.{module_operators_agree}
 use Rattle.module_semantics.specs.acceptance.InfoSizes.{sizes_fit, type_is_fit}
 use Rattle.module_semantics.specs.acceptance.Ranges.{all_by_handle, declarations_in_range}
 use Rattle.module_semantics.specs.acceptance.Ranges.{entry_point_in_range, function_in_range}
 use Rattle.module_semantics.specs.acceptance.Ranges.{is_below, module_in_range, module_ranges_fit}
+use Rattle.module_semantics.specs.WorkgroupSizes.{size_part, size_parts, size_parts_of}
+use Rattle.module_semantics.proofs.EntryPointRanges.{entry_point_fits}
+use Rattle.naga_naming.specs.Keys.{NameMap}
 use Rattle.module_semantics.specs.acceptance.Soundness.{module_is_sound}
 use Rattle.naga_form.specs.Attributes.{attribute_of, payload_attributes, size_attributes}
 use Rattle.naga_form.specs.Attributes.{stage_attributes}
 use Rattle.naga_words.specs.Output.{joined_texts}
 use Rattle.wgsl_text.specs.Attributes.{Attribute, Compute, IncomingPayload, Mesh, Payload, Plain}
 use Rattle.wgsl_text.specs.Attributes.{PlainAttribute, Task, WorkgroupSize, Worded, WordedAttribute}
-use Rattle.wgsl_text.specs.Attributes.{plain_attribute_word}
+use Rattle.wgsl_text.specs.Attributes.{FixedSize, NamedSize, SizePart, plain_attribute_word, size_token}
+use Rattle.wgsl_text.specs.Text.{token_text}
 use Rattle.naga_wgsl_shared.proofs.AttributeRows.{attributes_then, no_attributes, worded_alone}
 use Rattle.naga_wgsl_shared.proofs.AttributeRows.{worded_front}
 use Rattle.naga_wgsl_shared.specs.Attributes.{attributes_text, worded_text}
-use Rattle.naga_wgsl_shared.specs.Stages.{StageIsThere, compute_text, hit_text, output_text}
-use Rattle.naga_wgsl_shared.specs.Stages.{size_text}
-use Rattle.naga_wgsl_shared.specs.Stages.{stage_text, variable_text}
+use Rattle.naga_wgsl_shared.specs.Names.{name_of_override}
+use Rattle.naga_wgsl_shared.specs.Stages.{StageIsThere, hit_text, output_text, own_size_text}
+use Rattle.naga_wgsl_shared.specs.Stages.{part_text, size_text, stage_text, variable_text}
 
 -- what an entry point of an accepted module names is there
 pub stage_is_there : (m : Module) (info : ModuleInfo) → IsTrue (is_accepted m info) → (i : ℕ)
@@ -49,11 +54,8 @@ stage_is_there m info accepted i e at =
     let points = and_parts (all_by_handle (function_in_range m) m.functions)
     (list_all (entry_point_in_range m) m.entry_points.items) declared.1 in
     let own = list_all_at (entry_point_in_range m) m.entry_points.items i e points.1 at in
-    let count = length m.global_variables in
-    let one = and_parts (is_below count (option_map (λ k. k.output_variable) e.mesh_info)) _ own in
-    let two = and_parts (is_below count e.task_payload) _ one.1 in
-    let three = and_parts (is_below count e.incoming_ray_payload) _ two.1 in
-    record { output = one.0; payload = two.0; incoming = three.0 }
+    let fits = entry_point_fits m e own in
+    record { output = fits.output; payload = fits.payload; incoming = fits.incoming; overrides = fits.overrides }
 
 pub stage_row : (m : Module) (e : EntryPoint) →
     stage_text m e ≡
@@ -67,37 +69,42 @@ pub plain_row : (a : PlainAttribute) →
 unfolding attributes_text
 plain_row a = refl
 
-pub compute_row : (sizes : List ℕ) →
-    compute_text sizes ≡ joined_texts (codes "@compute ") (attributes_text (size_attributes sizes))
-unfolding compute_text joined_texts
-compute_row sizes = refl
+-- ---- the size of a workgroup
+-- a part, as it is written
+pub fixed_is : (n : ℕ) (suffix : List ℕ) → part_text (FixedSize n) ++ suffix ≡ decimal n ++ suffix
+unfolding part_text
+fixed_is n suffix = refl
 
-pub compute_is : (sizes : List ℕ) →
-    compute_text sizes ≡ attributes_text (Plain Compute ∷ size_attributes sizes)
-unfolding compute_text attributes_text
-compute_is sizes = refl
+pub named_is : (m : Module) (o : ℕ) (suffix : List ℕ) →
+    part_text (NamedSize (override_name (module_names m) o)) ++ suffix ≡ joined_texts (name_of_override m o) suffix
+unfolding part_text name_of_override joined_texts
+named_is m o suffix = refl
 
--- three sizes
-pub size_parts : (x y z : ℕ) →
+part_is : (x : SizePart) → token_text (size_token x) ≡ part_text x
+unfolding part_text
+part_is (FixedSize n) = append-nil (decimal n)
+part_is (NamedSize w) = refl
+
+size_parts_row : (x y z : SizePart) →
     size_text x y z ≡
     joined_texts (codes "@workgroup_size(")
-    (joined_texts (decimal x ++ codes ", ")
-    (joined_texts (decimal y ++ codes ", ") (decimal z ++ codes ") ")))
+    (joined_texts (part_text x ++ codes ", ")
+    (joined_texts (part_text y ++ codes ", ") (part_text z ++ codes ") ")))
 unfolding size_text joined_texts
-size_parts x y z = refl
+size_parts_row x y z = refl
 
-size_is : (x y z : ℕ) → attributes_text (WorkgroupSize x y z ∷ []) ≡ size_text x y z
+size_is : (x y z : SizePart) → attributes_text (WorkgroupSize x y z ∷ []) ≡ size_text x y z
 unfolding attributes_text size_text
 size_is x y z =
-    let last = decimal z ++ codes ") " in
-    let rest = decimal y ++ (codes ", " ++ last) in
-    (λ i. codes "@workgroup_size(" ++ (append-nil (decimal x) i ++
-    (codes ", " ++ (append-nil (decimal y) i ++ (codes ", " ++ (append-nil (decimal z) i ++ codes ") "))))))
+    let last = part_text z ++ codes ") " in
+    let rest = part_text y ++ (codes ", " ++ last) in
+    (λ i. codes "@workgroup_size(" ++ (part_is x i ++
+    (codes ", " ++ (part_is y i ++ (codes ", " ++ (part_is z i ++ codes ") "))))))
     ∙ ap (λ t. codes "@workgroup_size(" ++ t)
-    (sym (append_assoc (decimal x) (codes ", ") rest)
-    ∙ ap (λ t. (decimal x ++ codes ", ") ++ t) (sym (append_assoc (decimal y) (codes ", ") last)))
+    (sym (append_assoc (part_text x) (codes ", ") rest)
+    ∙ ap (λ t. (part_text x ++ codes ", ") ++ t) (sym (append_assoc (part_text y) (codes ", ") last)))
 
-three : (sizes : List ℕ) (d : ℕ) → length sizes ≡ 3 →
+three : {A : Type 0} (sizes : List A) (d : A) → length sizes ≡ 3 →
     sizes ≡ get_or sizes 0 d ∷ get_or sizes 1 d ∷ get_or sizes 2 d ∷ []
 three [] d is = absurd (omega (arith, is))
 three (x ∷ []) d is = absurd (omega (arith, is))
@@ -105,12 +112,29 @@ three (x ∷ y ∷ []) d is = absurd (omega (arith, is))
 three (x ∷ y ∷ z ∷ []) d is = refl
 three (x ∷ y ∷ z ∷ w ∷ more) d is = absurd (omega (arith, is))
 
-pub sizes_row : (sizes : List ℕ) (d : ℕ) → length sizes ≡ 3 →
-    size_text (get_or sizes 0 d) (get_or sizes 1 d) (get_or sizes 2 d) ≡
-    attributes_text (size_attributes sizes)
-sizes_row sizes d is =
-    sym (size_is (get_or sizes 0 d) (get_or sizes 1 d) (get_or sizes 2 d))
-    ∙ ap (λ l. attributes_text (size_attributes l)) (sym (three sizes d is))
+-- from its parts, along three axes
+pub sizes_row : (names : NameMap) (sizes : List ℕ) (overrides : List (Option ℕ)) (d : ℕ) (o : Option ℕ) →
+    length sizes ≡ 3 → length overrides ≡ 3 →
+    joined_texts (codes "@workgroup_size(")
+    (joined_texts (part_text (size_part names (get_or sizes 0 d) (get_or overrides 0 o)) ++ codes ", ")
+    (joined_texts (part_text (size_part names (get_or sizes 1 d) (get_or overrides 1 o)) ++ codes ", ")
+    (part_text (size_part names (get_or sizes 2 d) (get_or overrides 2 o)) ++ codes ") ")))
+    ≡ attributes_text (size_attributes (size_parts_of names sizes overrides))
+sizes_row names sizes overrides d o three_sizes three_overrides =
+    let part = λ (axis : ℕ). size_part names (get_or sizes axis d) (get_or overrides axis o) in
+    sym (size_parts_row (part 0) (part 1) (part 2))
+    ∙ (sym (size_is (part 0) (part 1) (part 2))
+    ∙ (λ i. attributes_text
+    (size_attributes
+    (size_parts_of names (sym (three sizes d three_sizes) i) (sym (three overrides o three_overrides) i)))))
+
+-- each of three overrides is there
+pub setting_fits : (count : ℕ) (overrides : List (Option ℕ)) (o : Option ℕ) → length overrides ≡ 3 →
+    list_all (is_below count) overrides ≡ true → (axis : ℕ) → axis < 3 →
+    is_below count (get_or overrides axis o) ≡ true
+setting_fits count overrides o three fit axis below =
+    list_all_at (is_below count) overrides axis (get_or overrides axis o) fit
+    (slice_get-get_or overrides axis o (omega (arith, three, below)))
 
 -- ---- stages with variables
 variable_row : (m : Module) (a : WordedAttribute) (variable : Option ℕ) →
@@ -137,12 +161,12 @@ output_is m i = refl
 pub mesh_row : (m : Module) (e : EntryPoint) →
     attributes_text (stage_attributes (module_names m) e stage.Mesh) ≡
     joined_texts (output_text m e.mesh_info)
-    (joined_texts (attributes_text (size_attributes e.workgroup_size))
+    (joined_texts (own_size_text m e)
     (variable_text m (codes "@payload(") e.task_payload))
 mesh_row m e =
     let names = module_names m in
     let output = attribute_of (λ (i : MeshStageInfo). Worded Mesh (global_name names i.output_variable)) e.mesh_info in
-    let sizes = size_attributes e.workgroup_size in
+    let sizes = size_attributes (size_parts names e) in
     attributes_then output (sizes ++ payload_attributes names e)
     ∙ (λ i. joined_texts (output_row m e.mesh_info i)
     (attributes_then sizes (payload_attributes names e) i))
@@ -157,14 +181,19 @@ plain_then a more =
     attributes_then (Plain a ∷ []) more
     ∙ ap (λ t. joined_texts t (attributes_text more)) (plain_row a)
 
+pub compute_row : (m : Module) (e : EntryPoint) →
+    joined_texts (codes "@compute ") (own_size_text m e) ≡
+    attributes_text (stage_attributes (module_names m) e stage.Compute)
+compute_row m e = sym (plain_then Compute (size_attributes (size_parts (module_names m) e)))
+
 pub task_row : (m : Module) (e : EntryPoint) →
     attributes_text (stage_attributes (module_names m) e stage.Task) ≡
     joined_texts (codes "@task ")
     (joined_texts (variable_text m (codes "@payload(") e.task_payload)
-    (attributes_text (size_attributes e.workgroup_size)))
+    (own_size_text m e))
 task_row m e =
     let payload = payload_attributes (module_names m) e in
-    let sizes = size_attributes e.workgroup_size in
+    let sizes = size_attributes (size_parts (module_names m) e) in
     plain_then Task (payload ++ sizes)
     ∙ (ap (joined_texts (codes "@task ")) (attributes_then payload sizes)
     ∙ ap (λ t. joined_texts (codes "@task ") (joined_texts t (attributes_text sizes)))

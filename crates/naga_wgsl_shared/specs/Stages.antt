@@ -1,23 +1,26 @@
 -- The texts of the stages of entry points.
 --
--- Throughout, m is a module, e an entry point of it, and front is what stands in front of a
--- variable.
+-- Throughout, m is a module, e an entry point of it, front is what stands in front of a variable,
+-- and x, y and z are the parts of a workgroup's size.
 use Rattle.std.specs.Prelude.{ℕ, List, [], ◌++◌, codes, decimal, IsTrue, Option, Some, None, length}
 use Rattle.std.specs.Option.{option_map}
 use Rattle.naga_ir.specs.declared.module.EntryPoint.{EntryPoint}
 use Rattle.naga_ir.specs.declared.module.MeshStageInfo.{MeshStageInfo}
 use Rattle.naga_ir.specs.declared.module.Module.{Module}
 use Rattle.module_semantics.specs.Names.{global_name, module_names}
-use Rattle.module_semantics.specs.acceptance.Ranges.{is_below}
+use Rattle.module_semantics.specs.WorkgroupSizes.{size_parts}
+use Rattle.module_semantics.specs.acceptance.Ranges.{is_below, size_overrides_fit}
 use Rattle.naga_form.specs.Attributes.{size_attributes, stage_attributes}
+use Rattle.wgsl_text.specs.Attributes.{SizePart, FixedSize, NamedSize}
 use Rattle.naga_wgsl_shared.specs.Attributes.{attributes_text, worded_text}
 
--- the variables that an entry point names are there
+-- the variables and overrides that an entry point names are there
 pub record StageIsThere (m : Module) (e : EntryPoint) : Type 0 where
   pub output : IsTrue (is_below (length m.global_variables)
       (option_map (λ k. k.output_variable) e.mesh_info))
   pub payload : IsTrue (is_below (length m.global_variables) e.task_payload)
   pub incoming : IsTrue (is_below (length m.global_variables) e.incoming_ray_payload)
+  pub overrides : IsTrue (size_overrides_fit m e)
 
 -- the attributes of its stage, and the line end after them
 unfoldable pub stage_text : Module → EntryPoint → List ℕ
@@ -37,11 +40,17 @@ hit_text m stage payload = stage ++ variable_text m (codes "@incoming_payload(")
 unfoldable pub output_text : Module → Option MeshStageInfo → List ℕ
 output_text m output = variable_text m (codes "@mesh(") (option_map (λ k. k.output_variable) output)
 
--- the size of a workgroup along each axis
-unfoldable pub size_text : (x y z : ℕ) → List ℕ
+-- the size of a workgroup along an axis: the number, or the name of the override that sets it
+unfoldable pub part_text : SizePart → List ℕ
+part_text (FixedSize n) = decimal n
+part_text (NamedSize w) = w
+
+-- its size along each axis
+unfoldable pub size_text : (x y z : SizePart) → List ℕ
 size_text x y z =
     codes "@workgroup_size(" ++
-    ((decimal x ++ codes ", ") ++ ((decimal y ++ codes ", ") ++ (decimal z ++ codes ") ")))
+    ((part_text x ++ codes ", ") ++ ((part_text y ++ codes ", ") ++ (part_text z ++ codes ") ")))
 
-unfoldable pub compute_text : (sizes : List ℕ) → List ℕ
-compute_text sizes = codes "@compute " ++ attributes_text (size_attributes sizes)
+-- the attribute of an entry point
+abbrev pub own_size_text : Module → EntryPoint → List ℕ
+own_size_text m e = attributes_text (size_attributes (size_parts (module_names m) e))

@@ -1,21 +1,22 @@
 //! The stage of an entry entry_point, by its attributes.
 
-ghost use Rattle.std.specs.Prelude.{◌<◌, IsTrue, codes, length};
+ghost use Rattle.std.specs.Prelude.{◌++◌, ◌<◌, IsTrue, codes, length};
 ghost use Rattle.std.specs.Option.{is_some, option_map};
 ghost use Rattle.module_semantics.specs.DeclarationForms.{stage_has_form};
 ghost use Rattle.module_semantics.specs.Names.{global_name, module_names};
+ghost use Rattle.module_semantics.specs.WorkgroupSizes.{size_part};
 ghost use Rattle.module_semantics.specs.acceptance.Ranges.{is_below};
-ghost use Rattle.naga_form.specs.Attributes.{size_attributes, stage_attributes};
+ghost use Rattle.naga_form.specs.Attributes.{stage_attributes};
 ghost use Rattle.naga_ir.specs.declared.module.ShaderStage.TheVariants as stage;
 ghost use Rattle.naga_words.specs.Output.{Writes};
 ghost use Rattle.naga_wgsl_shared.specs.Attributes.{attributes_text, worded_text};
 ghost use Rattle.naga_wgsl_shared.specs.ModuleText.{CanWriteIn};
-ghost use Rattle.naga_wgsl_shared.specs.Stages.{StageIsThere, compute_text, hit_text, output_text};
-ghost use Rattle.naga_wgsl_shared.specs.Stages.{size_text, stage_text, variable_text};
+ghost use Rattle.naga_wgsl_shared.specs.Stages.{StageIsThere, hit_text, output_text};
+ghost use Rattle.naga_wgsl_shared.specs.Stages.{own_size_text, part_text, stage_text, variable_text};
 
 use crate::literal::write_number;
 use crate::module_text::ModuleText;
-use naga_ir::{EntryPoint, GlobalVariable, Handle, MeshStageInfo, ShaderStage};
+use naga_ir::{EntryPoint, GlobalVariable, Handle, MeshStageInfo, Override, ShaderStage};
 use naga_naming::NameKey;
 use naga_words::{Output, TextSink};
 
@@ -44,7 +45,7 @@ impl ModuleText<'_> {
         match entry_point.stage {
             ShaderStage::Vertex => out.put("@vertex "),
             ShaderStage::Fragment => out.put("@fragment "),
-            ShaderStage::Compute => write_compute(entry_point.workgroup_size, out),
+            ShaderStage::Compute => self.write_compute(entry_point, out),
             ShaderStage::Mesh => self.write_mesh(entry_point, out),
             ShaderStage::Task => self.write_task(entry_point, out),
             ShaderStage::RayGeneration => out.put("@ray_generation "),
@@ -60,6 +61,16 @@ impl ModuleText<'_> {
         }
     }
 
+    fn write_compute<W: TextSink>(&self, entry_point: &EntryPoint, out: &mut Output<'_, W>)
+        requires can { CanWriteIn self.now }
+        requires there { StageIsThere self.now.shader.now entry_point.now }
+        ensures { Writes W.text W.failures out.old out.new (attributes_text
+            (stage_attributes (module_names self.now.shader.now) entry_point.now stage.Compute)) }
+    {
+        out.put("@compute ");
+        self.write_sizes(entry_point, out);
+    }
+
     /// A mesh stage has an output, and may have a payload.
     fn write_mesh<W: TextSink>(&self, entry_point: &EntryPoint, out: &mut Output<'_, W>)
         requires can { CanWriteIn self.now }
@@ -69,7 +80,7 @@ impl ModuleText<'_> {
             (stage_attributes (module_names self.now.shader.now) entry_point.now stage.Mesh)) }
     {
         self.write_output(entry_point.mesh_info, out);
-        write_sizes(entry_point.workgroup_size, out);
+        self.write_sizes(entry_point, out);
         self.write_payload(entry_point.task_payload, out);
     }
 
@@ -82,7 +93,45 @@ impl ModuleText<'_> {
     {
         out.put("@task ");
         self.write_needed("@payload(", entry_point.task_payload, out);
-        write_sizes(entry_point.workgroup_size, out);
+        self.write_sizes(entry_point, out);
+    }
+
+    /// How many invocations a workgroup has along each axis: `@workgroup_size(W, 4, 1) `.
+    fn write_sizes<W: TextSink>(&self, entry_point: &EntryPoint, out: &mut Output<'_, W>)
+        requires can { CanWriteIn self.now }
+        requires there { StageIsThere self.now.shader.now entry_point.now }
+        ensures { Writes W.text W.failures out.old out.new
+            (own_size_text self.now.shader.now entry_point.now) }
+    {
+        let [x, y, z] = entry_point.workgroup_size;
+        let [sets_x, sets_y, sets_z] = &entry_point.workgroup_size_overrides;
+        out.put("@workgroup_size(");
+        self.write_size(x, *sets_x, ", ", out);
+        self.write_size(y, *sets_y, ", ", out);
+        self.write_size(z, *sets_z, ") ", out);
+    }
+
+    /// So many along one axis, or the override that sets it, and what stands after it.
+    fn write_size<W: TextSink>(
+        &self,
+        number: u32,
+        setting: Option<Handle<Override>>,
+        suffix: &str,
+        out: &mut Output<'_, W>,
+    )
+        requires can { CanWriteIn self.now }
+        requires there { IsTrue (is_below (length self.now.shader.now.overrides) setting) }
+        ensures { Writes W.text W.failures out.old out.new
+            (part_text (size_part (module_names self.now.shader.now) number setting)
+            ++ suffix.now) }
+    {
+        match setting {
+            Some(handle) => {
+                self.write_override_name(handle, out);
+                out.put(suffix);
+            }
+            None => write_number(number, suffix, out),
+        }
     }
 
     /// A stage that answers a ray, which came with a payload.
@@ -172,28 +221,4 @@ impl ModuleText<'_> {
         self.write_name(&NameKey::GlobalVariable(variable), out);
         out.put(") ");
     }
-}
-
-fn write_compute<W: TextSink>(sizes: [u32; 3], out: &mut Output<'_, W>)
-    ensures { Writes W.text W.failures out.old out.new (compute_text sizes) }
-{
-    out.put("@compute ");
-    write_sizes(sizes, out);
-}
-
-/// How many invocations a workgroup has along each axis.
-fn write_sizes<W: TextSink>(sizes: [u32; 3], out: &mut Output<'_, W>)
-    ensures { Writes W.text W.failures out.old out.new (attributes_text (size_attributes sizes)) }
-{
-    let [x, y, z] = sizes;
-    write_size(x, y, z, out);
-}
-
-fn write_size<W: TextSink>(x: u32, y: u32, z: u32, out: &mut Output<'_, W>)
-    ensures { Writes W.text W.failures out.old out.new (size_text x y z) }
-{
-    out.put("@workgroup_size(");
-    write_number(x, ", ", out);
-    write_number(y, ", ", out);
-    write_number(z, ") ", out);
 }

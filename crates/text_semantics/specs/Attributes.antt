@@ -10,7 +10,7 @@ use Rattle.wgsl_text.specs.Attributes.{WorkgroupSize, Invariant, PerPrimitive, C
 use Rattle.wgsl_text.specs.Attributes.{Vertex, Fragment, Compute, Task, RayGeneration, AnyHit}
 use Rattle.wgsl_text.specs.Attributes.{ClosestHit, Miss, Location, BlendSource, Id, Group, Binding}
 use Rattle.wgsl_text.specs.Attributes.{Size, Align, Builtin, Interpolate, Mesh, Payload}
-use Rattle.wgsl_text.specs.Attributes.{IncomingPayload}
+use Rattle.wgsl_text.specs.Attributes.{IncomingPayload, SizePart}
 
 -- ---- inputs and outputs
 -- a numbered location between two stages, with the source of the blending that it is, if it tells
@@ -119,13 +119,14 @@ is_volatile _ = false
 
 -- ---- entry points
 -- A stage of a pipeline with what it has beside a function: how many invocations a workgroup has
--- along each axis, and the names of the variables that it puts its primitives in, that it hands its
--- payload on in or takes it from. None is told of these attributes if they are no stage's.
+-- along each axis, by a number or by the name of an override that sets it, and the names of the
+-- variables that it puts its primitives in, that it hands its payload on in or takes it from. None
+-- is told of these attributes if they are no stage's.
 pub data Stage : Type 0 where
   VertexStage FragmentStage RayGenerationStage : Stage
-  ComputeStage : (size : List ℕ) → Stage
-  MeshStage : (output payload : Option (List ℕ)) → (size : List ℕ) → Stage
-  TaskStage : (payload : Option (List ℕ)) → (size : List ℕ) → Stage
+  ComputeStage : (size : List SizePart) → Stage
+  MeshStage : (output payload : Option (List ℕ)) → (size : List SizePart) → Stage
+  TaskStage : (payload : Option (List ℕ)) → (size : List SizePart) → Stage
   AnyHitStage ClosestHitStage MissStage : (incoming_payload : Option (List ℕ)) → Stage
   NoStage : List Attribute → Stage
 

@@ -7,10 +7,11 @@
 -- and an entry point.
 use Rattle.std.specs.Prelude.{ℕ, suc, Bool, List, [], ◌∷◌, ◌++◌, map, Option, Some, None}
 use Rattle.std.specs.Prelude.{if◌then◌else◌, slice_get}
-use Rattle.std.specs.List.{filter_map, list_all}
+use Rattle.std.specs.List.{filter_map, flat_map, list_all}
 use Rattle.std.specs.Option.{is_none, option_and_then, option_map, option_or}
 use Rattle.std.specs.Str.{bytes_eq}
 use Rattle.wgsl_text.specs.Attributes.{Attribute, Worded, Mesh, Payload, IncomingPayload}
+use Rattle.wgsl_text.specs.Attributes.{WorkgroupSize, SizePart, FixedSize, NamedSize}
 use Rattle.wgsl_text.specs.Declarations.{Program, Struct}
 use Rattle.wgsl_text.specs.Expressions.{Expression}
 use Rattle.wgsl_text.specs.Types.{TypeSpecifier, Named, Template, TemplateArguments, TypeArgument}
@@ -93,17 +94,23 @@ program_initialiser_targets p =
     map (λ v. initialiser_targets names v.value) p.overrides ++
     map (λ v. initialiser_targets names v.value) p.globals
 
--- the variable that an attribute of a stage names
-abbrev pub variable_named : Attribute → Option (List ℕ)
-variable_named (Worded Mesh w) = Some w
-variable_named (Worded Payload w) = Some w
-variable_named (Worded IncomingPayload w) = Some w
-variable_named _ = None
+-- the name that stands for a part of a workgroup's size, if it is no number
+abbrev pub size_name : SizePart → Option (List ℕ)
+size_name (FixedSize n) = None
+size_name (NamedSize w) = Some w
 
--- of each entry point
+-- the names in an attribute of a stage: of a variable, or of what sets a workgroup's size
+abbrev pub names_in : Attribute → List (List ℕ)
+names_in (Worded Mesh w) = w ∷ []
+names_in (Worded Payload w) = w ∷ []
+names_in (Worded IncomingPayload w) = w ∷ []
+names_in (WorkgroupSize x y z) = filter_map size_name (x ∷ y ∷ z ∷ [])
+names_in _ = []
+
+-- what they stand for, of each entry point
 abbrev pub stage_targets : Program → List (List (Option Target))
 stage_targets p =
-    map (λ e. map (text_names (program_read p)) (filter_map variable_named e.stage)) p.entry_points
+    map (λ e. map (text_names (program_read p)) (flat_map names_in e.stage)) p.entry_points
 
 -- ---- members
 -- the number of the member with this word, in the struct with this name

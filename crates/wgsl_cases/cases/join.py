@@ -19,8 +19,17 @@ HERE = Path(__file__).resolve().parent
 CRATE = HERE.parent
 
 EXPECTATION = re.compile(
-    r"(gives nothing|gives with types|gives portable|gives)|(refused with types|refused|at with types|at|not accepted): (.+)"
+    r"(gives nothing|gives with types|gives portable|gives with digits|gives)"
+    r"|(refused with types|refused|at with types|at|not accepted): (.+)"
 )
+# The lines with a text below them.
+TEXTS = ("gives", "gives with types", "gives portable", "gives with digits")
+# Other texts of the same module, by the lines that tell them: the member by which the program is asked for one,
+# and what stands after the case's name, without types and with them.
+OTHERS = {
+    "gives portable": ("portable", "portable", "portable with types"),
+    "gives with digits": ("digits", "with digits", "with digits and types"),
+}
 ONLY_WITH_TYPES = re.compile(r"\[(: [^\[\]]+)\]")
 # A line of attributes alone, in front of an entry point or a variable that is bound.
 # Where a module is not accepted: an item, and a part of a function.
@@ -86,7 +95,7 @@ def without_comments(lines):
             text = None
         if text is None and (not line.text or line.text.startswith("# ") or line.text == "#"):
             continue
-        if text is None and line.text in ("gives", "gives with types", "gives portable"):
+        if text is None and line.text in TEXTS:
             text = line
         kept.append(line)
     return kept
@@ -133,22 +142,22 @@ class Expected:
         self.texts = [None, None]
         self.refusals = [None, None]
         self.positions = [None, None]
-        self.portable = None
+        self.others = dict.fromkeys(OTHERS)
         self.only = None
 
     def add(self, case, head, match, lines):
         """Adds what a line says, with the text below it."""
         gives, word, rest = match.groups()
         typed = (gives or word).endswith("with types")
-        if gives in ("gives", "gives with types", "gives portable"):
+        if gives in TEXTS:
             told = block_text(lines)
             if not told:
                 raise case.error("no text: write `gives nothing`", head)
         else:
             has_nothing_below(case, lines)
             told = rest or ""
-        if gives == "gives portable":
-            self.portable = self.first_time(case, head, self.portable, told)
+        if gives in OTHERS:
+            self.others[gives] = self.first_time(case, head, self.others[gives], told)
         elif word == "not accepted":
             self.only = self.first_time(case, head, self.only, f"{word}: {rest}\n")
         elif word in ("at", "at with types"):
@@ -168,7 +177,8 @@ class Expected:
     def check(self, case):
         """The case tells one thing at least, and no two that exclude each other."""
         plain, typed = zip(self.texts, self.refusals)
-        of_texts = any(told is not None for told in (*plain, *typed, self.portable))
+        others = [gives.removeprefix("gives ") for gives, told in self.others.items() if told is not None]
+        of_texts = others or any(told is not None for told in (*plain, *typed))
         if self.only is None and not of_texts:
             raise case.error("nothing is expected")
         if self.only is not None and of_texts:
@@ -181,10 +191,10 @@ class Expected:
             raise case.error("a position of what is not refused with types")
         if "" in self.positions and self.refusals != [None, None]:
             raise case.error("what is refused stands somewhere")
-        if self.portable is not None and self.refusals != [None, None]:
-            raise case.error("a module that is not written has no portable text")
-        if self.portable is not None and self.texts[0] is None:
-            raise case.error("portable alone: what is written otherwise is not told")
+        if others and self.refusals != [None, None]:
+            raise case.error(f"a module that is not written has no text {others[0]}")
+        if others and self.texts[0] is None:
+            raise case.error(f"{others[0]} alone: what is written otherwise is not told")
 
     def answers(self, module):
         """What the program prints without the types of `let`s and with them."""
@@ -205,11 +215,16 @@ class Expected:
             return [first, told(ONLY_WITH_TYPES.sub(r"\1", plain), self.refusals[0])]
         return [first, told(self.texts[1] or "", self.refusals[1], typed=True)]
 
-    def portable_answers(self, has_entry_points):
-        """The same in texts for standard compilers, if the case tells of them."""
-        if self.portable is None:
-            return None
-        return [ended(ONLY_WITH_TYPES.sub(types, self.portable), has_entry_points) for types in ("", r"\1")]
+    def other_answers(self, module):
+        """The same of each other text that the case tells: what stands after the case's name, and the answer."""
+        has_entry_points = bool(module.get("entry_points"))
+        for gives, (_, plain_head, typed_head) in OTHERS.items():
+            if self.others[gives] is None:
+                continue
+            plain, typed = (ONLY_WITH_TYPES.sub(types, self.others[gives]) for types in ("", r"\1"))
+            yield plain_head, ended(plain, has_entry_points)
+            if typed != plain:
+                yield typed_head, ended(typed, has_entry_points)
 
 
 def json_position(told, module):
@@ -399,8 +414,9 @@ class Joined:
             # the program finds it
             del told["info"]
         told = {"name": case.name, **told}
-        if expected.portable is not None:
-            told["portable"] = True
+        for gives, (member, _, _) in OTHERS.items():
+            if expected.others[gives] is not None:
+                told[member] = True
         if expected.positions != [None, None]:
             told["positions"] = True
         self.input.append(json.dumps(told, ensure_ascii=False, separators=(",", ":")) + "\n")
@@ -408,12 +424,8 @@ class Joined:
         self.output.append(f"== {case.name}\n{plain}")
         if typed != plain:
             self.output.append(f"== {case.name}, with types\n{typed}")
-        portable = expected.portable_answers(bool(told["module"].get("entry_points")))
-        if portable is not None:
-            plain, typed = portable
-            self.output.append(f"== {case.name}, portable\n{plain}")
-            if typed != plain:
-                self.output.append(f"== {case.name}, portable with types\n{typed}")
+        for head, answer in expected.other_answers(told["module"]):
+            self.output.append(f"== {case.name}, {head}\n{answer}")
 
 
 def main(words):

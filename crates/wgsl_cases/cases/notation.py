@@ -308,6 +308,8 @@ class Module:
                 reader.fail("two stages")
             elif word in STAGES:
                 point = {"stage": STAGES[word], "workgroup_size": numbers or [0, 0, 0]}
+            elif word == "sizes" and point is not None:
+                point["workgroup_size_overrides"] = numbers
             elif word not in VARIABLES:
                 reader.fail(f"`@{word}` is no attribute of an entry point")
             elif point is None:

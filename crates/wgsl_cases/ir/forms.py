@@ -149,6 +149,19 @@ class Fixed(Form):
         return Told(list_of(item.json for item in items), "[" + ", ".join(item.debug for item in items) + "]")
 
 
+class NoneTold(Maybe):
+    """A list of so many that may each be null, of which random modules have only nulls: what is read of one hangs on
+    what it names."""
+
+    def __init__(self, form, count):
+        super().__init__(Fixed(Maybe(form), count))
+        self.absent = "[" + ", ".join(["None"] * count) + "]"
+        self.nulls = "[" + ",".join(["null"] * count) + "]"
+
+    def tell(self, r):
+        return Told(r.choice(["null", self.nulls]), self.absent)
+
+
 class Distinct(Listed):
     """A list in which no value comes twice."""
 

@@ -6,8 +6,8 @@ names from here (`../runs/module_forms.py`, `bench/fuzz`). The names in Rust dif
 """
 
 from forms import (
-    Bare, Double, Enum, Fixed, Flags, Form, Half, Listed, Maybe, Needed, Number, Numbered, Paired, Handle, Short,
-    Shown, Single, Struct, Text, Truth, arena, unique_arena)
+    Bare, Double, Enum, Fixed, Flags, Form, Half, Listed, Maybe, Needed, NoneTold, Number, Numbered, Paired, Handle,
+    Short, Shown, Single, Struct, Text, Truth, arena, unique_arena)
 
 
 def words(text):
@@ -222,9 +222,10 @@ MESH_INFO = Struct(
     others=("topology", "max_vertices", "max_vertices_override", "max_primitives", "max_primitives_override",
             "vertex_output_type", "primitive_output_type"))
 ENTRY_POINT = Struct(
-    "EntryPoint", ("name", Text()), ("stage", STAGE), ("workgroup_size", Fixed(U32, 3)), ("function", FUNCTION),
+    "EntryPoint", ("name", Text()), ("stage", STAGE), ("workgroup_size", Fixed(U32, 3)),
+    ("workgroup_size_overrides", NoneTold(X, 3)), ("function", FUNCTION),
     ("mesh_info", Maybe(MESH_INFO)), ("task_payload", Maybe(HANDLE)), ("incoming_ray_payload", Maybe(HANDLE)),
-    nulls=("early_depth_test", "workgroup_size_overrides"))
+    nulls=("early_depth_test",))
 SPECIAL_TYPES = Struct(
     "SpecialTypes", ("predeclared_types", Paired(PREDECLARED_TYPE, HANDLE)), ("external_texture_params", Maybe(HANDLE)),
     ("external_texture_transfer_function", Maybe(HANDLE)), ("ray_desc", Maybe(HANDLE)),

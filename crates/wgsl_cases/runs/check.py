@@ -16,6 +16,9 @@ from module_forms import Module  # noqa: E402
 from test_runs import faults  # noqa: E402
 
 CRATE = Path(__file__).resolve().parent.parent
+# How else than plainly a case is written.
+STYLES = ("with types", "portable", "portable with types", "with digits", "with digits and types")
+
 LATE, SIBLING, SWITCH = "sum of earlier read", "sum in both branches", "joined cases"
 TAIL, FOLDED, CALL = "sum in continuing", "constant sum after continue", "call with pointer"
 POINTED = "what a pointer pointed to is given after a store"
@@ -53,7 +56,7 @@ def main():
     wrong, functions, texts = faults(), 0, 0
     modules, answers = cases()
     for name, told in modules.items():
-        for case in (name, f"{name}, with types", f"{name}, portable", f"{name}, portable with types"):
+        for case in (name, *(f"{name}, {style}" for style in STYLES)):
             text = answers.get(case)
             if text is None or re.search("^(not accepted|refused): ", text, re.MULTILINE):
                 continue

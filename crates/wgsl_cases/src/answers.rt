@@ -4,6 +4,7 @@ ghost use Rattle.std.specs.Prelude.{IsTrue};
 ghost use Rattle.module_semantics.specs.acceptance.Accepted.{is_accepted};
 
 use bitflags::Flags;
+use decimal_floats::keep_digits;
 use json::{Scratch, Value};
 use module_positions::{JsonHolder, JsonRefusalPosition, labelled_position, role_at, root_at};
 use naga_json::{Known, ReadError, known_of, module_of, parse};
@@ -81,17 +82,29 @@ fn answer_known<W: Write>(
         out,
     )?;
     if is_told(case, "portable") {
-        let typed_head = ", portable with types";
-        return print_texts(
+        print_texts(
             alloc,
             name,
             ", portable",
-            typed_head,
+            ", portable with types",
             known,
             WriterFlags::PORTABLE,
             positions,
             out,
-        );
+        )?;
+    }
+    if is_told(case, "digits") {
+        keep_digits(&mut known.module);
+        print_texts(
+            alloc,
+            name,
+            ", with digits",
+            ", with digits and types",
+            known,
+            WriterFlags::empty(),
+            positions,
+            out,
+        )?;
     }
     Ok(())
 }

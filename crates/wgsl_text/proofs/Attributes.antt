@@ -1,6 +1,6 @@
 -- Attributes: the machine reads back what their pieces write, and no token of these runs into the
 -- next; and the text of each row.
-use Rattle.std.proofs.Common.{◌≡◌, ℕ, List, [], ◌∷◌, refl, ap}
+use Rattle.std.proofs.Common.{◌≡◌, ℕ, true, false, List, [], ◌∷◌, ◌++◌, refl, ap, ◌∙◌}
 use Rattle.std.specs.Prelude.{codes}
 use Rattle.wgsl_text.specs.Attributes.{PlainAttribute, Invariant, PerPrimitive, Coherent, Volatile}
 use Rattle.wgsl_text.specs.Attributes.{Vertex, Fragment, Compute, Task, RayGeneration, AnyHit}
@@ -10,19 +10,22 @@ use Rattle.wgsl_text.specs.Attributes.{Interpolate, Mesh, Payload, IncomingPaylo
 use Rattle.wgsl_text.specs.Attributes.{Plain, Numbered, Worded, Interpolated, WorkgroupSize}
 use Rattle.wgsl_text.specs.Attributes.{plain_attribute_word, numbered_attribute_word}
 use Rattle.wgsl_text.specs.Attributes.{worded_attribute_word, attribute_pieces, attributes_pieces}
-use Rattle.wgsl_text.specs.Attributes.{IsAttribute, IsAttributes}
+use Rattle.wgsl_text.specs.Attributes.{IsAttribute, IsAttributes, SizePart, FixedSize, NamedSize}
+use Rattle.wgsl_text.specs.Attributes.{IsSizePart, size_piece, size_token}
 use Rattle.wgsl_text.specs.Declarations.{StructMember, Program}
 use Rattle.wgsl_text.specs.Functions.{Parameter}
-use Rattle.wgsl_text.specs.Token.{At, Fixed}
+use Rattle.wgsl_text.specs.Token.{At, Fixed, Number, NoSuffix, Piece}
 use Rattle.wgsl_text.specs.Words.{is_builtin, IsWord, is_reserved}
 use Rattle.wgsl_text.proofs.Machine.{Stack, Reader, Expect, step, InProgram, InParameters, InResult}
 use Rattle.wgsl_text.proofs.Machine.{InMembers, ExpectParameter, ExpectResult, AttributeName}
 use Rattle.wgsl_text.proofs.Machine.{ExpectMemberName, PlainKind, NumberedKind, WordedKind, kind_of}
-use Rattle.wgsl_text.proofs.Machine.{attribute_named, turned, add_attribute}
+use Rattle.wgsl_text.proofs.Machine.{attribute_named, turned, add_attribute, AttributePart, SizeKind}
+use Rattle.wgsl_text.proofs.Machine.{NumberPart, WordPart, ExpectAttributePart, AfterAttributePart}
+use Rattle.wgsl_text.proofs.Machine.{size_of_part}
 use Rattle.wgsl_text.proofs.Chain.{◌$◌}
 use Rattle.wgsl_text.proofs.Closing.{Closed, none, gap, tok, free, size, sign, ◌then◌}
 use Rattle.wgsl_text.proofs.Runs.{Runs, ◌onward◌, reads, over_gap, as_reader, at_end}
-use Rattle.wgsl_text.proofs.Text.{IsWordToken}
+use Rattle.wgsl_text.proofs.Text.{IsWordToken, ends, ends_word}
 use Rattle.wgsl_text.proofs.Words.{table_word, builtin_values_free, interpolations_free}
 use Rattle.wgsl_text.proofs.Words.{samplings_free}
 use Rattle.wgsl_text.specs.Tables.{builtin_value_words, interpolation_words, sampling_words}
@@ -60,6 +63,30 @@ worded_kind Mesh = refl
 worded_kind Payload = refl
 worded_kind IncomingPayload = refl
 
+-- a part of a workgroup's size
+part_of_size : SizePart → AttributePart
+part_of_size (FixedSize n) = NumberPart n
+part_of_size (NamedSize w) = WordPart w
+
+size_read : (x : SizePart) (done : List AttributePart) (s : Stack) →
+    step is_builtin (ExpectAttributePart SizeKind done s) (size_token x) ≡
+    AfterAttributePart SizeKind (part_of_size x ∷ done) s
+unfolding part_of_size
+size_read (FixedSize n) done s = refl
+size_read (NamedSize w) done s = refl
+
+size_kept : (x : SizePart) → size_of_part (part_of_size x) ≡ x
+unfolding part_of_size
+size_kept (FixedSize n) = refl
+size_kept (NamedSize w) = refl
+
+sizes_kept : (x y z : SizePart) → WorkgroupSize (size_of_part (part_of_size x)) (size_of_part (part_of_size y))
+    (size_of_part (part_of_size z)) ≡ WorkgroupSize x y z
+sizes_kept x y z =
+    ap (λ v. WorkgroupSize v (size_of_part (part_of_size y)) (size_of_part (part_of_size z))) (size_kept x) ∙
+    (ap (λ v. WorkgroupSize x v (size_of_part (part_of_size z))) (size_kept y) ∙
+    ap (WorkgroupSize x y) (size_kept z))
+
 -- an attribute, from a state where `@` may stand
 pub attribute_runs : (a : Attribute) {at : Reader} {s : Stack} → step is_builtin at (Fixed At)
     ≡ AttributeName s → Runs (attribute_pieces a) at (add_attribute a s)
@@ -70,7 +97,10 @@ attribute_runs (Numbered a n) {s = s} e = reads $ as_reader e $ reads $
 attribute_runs (Worded a w) {s = s} e = reads $ as_reader e $ reads $
     as_reader (ap (λ k. attribute_named k s) (worded_kind a)) at_end
 attribute_runs (Interpolated i w) e = reads $ as_reader e at_end
-attribute_runs (WorkgroupSize x y z) e = reads $ as_reader e at_end
+attribute_runs (WorkgroupSize x y z) {s = s} e = reads $ as_reader e $ reads $ reads $ reads $
+    as_reader (size_read x _ s) $ reads $ over_gap $ reads $ as_reader (size_read y _ s) $ reads $ over_gap $
+    reads $ as_reader (size_read z _ s) $ reads $ as_reader (ap (λ a. add_attribute a s) (sizes_kept x y z)) $
+    over_gap at_end
 
 pub attributes_run : (list attributes : List Attribute) (p : Program) →
     Runs (attributes_pieces list) (Expect (InProgram attributes p)) (Expect (InProgram (turned list attributes) p))
@@ -154,6 +184,12 @@ attribute_word Mesh w is = is.word
 attribute_word Payload w is = is.word
 attribute_word IncomingPayload w is = is.word
 
+size_closed : (x : SizePart) {qs : List Piece} → IsSizePart x →
+    ((more : List Piece) → ends (Number false 0 NoSuffix) (text (qs ++ more)) ≡ true) →
+    ((more : List Piece) → ends_word (text (qs ++ more)) ≡ true) → Closed qs → Closed (size_piece x ∷ qs)
+size_closed (FixedSize n) is number word b = size is number b
+size_closed (NamedSize w) is number word b = free is.word word b
+
 pub attribute_closed : (a : Attribute) → IsAttribute a → Closed (attribute_pieces a)
 attribute_closed (Plain a) is = sign (λ _. refl) $ tok (plain_word a) (λ _. refl) $ gap none
 attribute_closed (Numbered a n) is = sign (λ _. refl) $ tok (numbered_word a) (λ _. refl) $ sign (λ _. refl) $
@@ -166,9 +202,9 @@ attribute_closed (Interpolated i s) is =
     free (table_word interpolation_words i interpolations_free is.0) (λ _. refl) $ sign (λ _. refl) $ gap $
     free (table_word sampling_words s samplings_free is.1) (λ _. refl) $ sign (λ _. refl) $ gap none
 attribute_closed (WorkgroupSize x y z) is =
-    sign (λ _. refl) $ tok size_word (λ _. refl) $ sign (λ _. refl) $ size is.0 (λ _. refl) $ sign (λ _. refl) $
-    gap $ size is.1 (λ _. refl) $ sign (λ _. refl) $ gap $
-    size is.2 (λ _. refl) $ sign (λ _. refl) $ gap none
+    sign (λ _. refl) $ tok size_word (λ _. refl) $ sign (λ _. refl) $ size_closed x is.0 (λ _. refl) (λ _. refl) $
+    sign (λ _. refl) $ gap $ size_closed y is.1 (λ _. refl) (λ _. refl) $ sign (λ _. refl) $ gap $
+    size_closed z is.2 (λ _. refl) (λ _. refl) $ sign (λ _. refl) $ gap none
 
 pub attributes_closed : (list : List Attribute) → IsAttributes list → Closed (attributes_pieces list)
 attributes_closed [] is = none

@@ -9,7 +9,7 @@ use Rattle.wgsl_text.specs.Examples.{inlined_program, used_twice, select_call, n
 use Rattle.wgsl_text.specs.Examples.{idle_literal, sample_at_zero, pointer, negate, modf_members}
 use Rattle.wgsl_text.specs.Examples.{siblings, named_siblings, switch_joined, switch_default_first}
 use Rattle.wgsl_text.specs.Examples.{loop_break_if, loop_tail, loop_folded, barriers}
-use Rattle.wgsl_text.specs.Examples.{call_of_function, compute, struct_names, override_with_id}
+use Rattle.wgsl_text.specs.Examples.{call_of_function, compute, compute_of_overrides, struct_names, override_with_id}
 use Rattle.wgsl_text.specs.Examples.{global_buffer, vertex_output, enable_f16, named_constant}
 use Rattle.wgsl_text.specs.Examples.{flat_input, atomic_add, natural_offsets, gap_by_size}
 use Rattle.wgsl_text.specs.Examples.{stride_by_size}
@@ -132,6 +132,10 @@ compute_form : IsProgram compute
 unfolding is_reserved is_builtin
 compute_form = search rules
 
+compute_of_overrides_form : IsProgram compute_of_overrides
+unfolding is_reserved is_builtin
+compute_of_overrides_form = search rules
+
 struct_names_form : IsProgram struct_names
 unfolding is_reserved is_builtin
 struct_names_form = search rules
@@ -220,6 +224,7 @@ worked_programs = record {
   barriers = record { form = barriers_form; text = refl };
   call_of_function = record { form = call_of_function_form; text = refl };
   compute = record { form = compute_form; text = refl };
+  compute_of_overrides = record { form = compute_of_overrides_form; text = refl };
   struct_names = record { form = struct_names_form; text = refl };
   override_with_id = record { form = override_with_id_form; text = refl };
   global_buffer = record { form = global_buffer_form; text = refl };

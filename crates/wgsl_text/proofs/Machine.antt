@@ -38,6 +38,7 @@ use Rattle.wgsl_text.specs.Attributes.{ClosestHit, Miss, NumberedAttribute, Loca
 use Rattle.wgsl_text.specs.Attributes.{Id, Group, Binding, Size, Align, WordedAttribute, Builtin}
 use Rattle.wgsl_text.specs.Attributes.{Interpolate, Mesh, Payload, IncomingPayload, Attribute}
 use Rattle.wgsl_text.specs.Attributes.{Plain, Numbered, Worded, Interpolated, WorkgroupSize}
+use Rattle.wgsl_text.specs.Attributes.{SizePart, FixedSize, NamedSize}
 use Rattle.wgsl_text.specs.Attributes.{plain_attribute_word, numbered_attribute_word}
 use Rattle.wgsl_text.specs.Attributes.{worded_attribute_word}
 use Rattle.wgsl_text.specs.Functions.{Parameter, Result, NoResult, ResultOf, Local, Function}
@@ -704,12 +705,17 @@ expect_attribute_part (Word w) kind done s = AfterAttributePart kind (WordPart w
 expect_attribute_part (Number negative n suffix) kind done s = AfterAttributePart kind (NumberPart n ∷ done) s
 expect_attribute_part _ kind done s = Failed
 
+abbrev pub size_of_part : AttributePart → SizePart
+size_of_part (NumberPart n) = FixedSize n
+size_of_part (WordPart w) = NamedSize w
+
 -- an attribute of these parts, the newest first
 abbrev pub close_attribute : AttributeKind → List AttributePart → Stack → Reader
 close_attribute (NumberedKind a) (NumberPart n ∷ []) s = add_attribute (Numbered a n) s
 close_attribute (WordedKind a) (WordPart w ∷ []) s = add_attribute (Worded a w) s
 close_attribute (WordedKind a) (WordPart v ∷ WordPart w ∷ []) s = add_attribute (Interpolated w v) s
-close_attribute SizeKind (NumberPart z ∷ NumberPart y ∷ NumberPart x ∷ []) s = add_attribute (WorkgroupSize x y z) s
+close_attribute SizeKind (z ∷ y ∷ x ∷ []) s =
+    add_attribute (WorkgroupSize (size_of_part x) (size_of_part y) (size_of_part z)) s
 close_attribute kind parts s = Failed
 
 abbrev pub after_attribute_part : Mark → AttributeKind → List AttributePart → Stack → Reader

@@ -9,7 +9,7 @@ use Rattle.wgsl_text.specs.Types.{TypeSpecifier, Named, Template, NoTemplateArgu
 use Rattle.wgsl_text.specs.Expressions.{Negate, Expression, Constant, Name, Unary, Call, Member}
 use Rattle.wgsl_text.specs.Expressions.{NoArguments, Argument, NumberArgument, ZeroArgument}
 use Rattle.wgsl_text.specs.Attributes.{Compute, Location, Size, Align, Builtin, Attribute, Plain}
-use Rattle.wgsl_text.specs.Attributes.{Numbered, Worded}
+use Rattle.wgsl_text.specs.Attributes.{Numbered, Worded, WorkgroupSize, FixedSize}
 use Rattle.wgsl_text.specs.Functions.{NoResult}
 use Rattle.wgsl_text.specs.Statements.{Case, Cases, DefaultCase, LastCaseValue, MoreCaseValues}
 use Rattle.wgsl_text.specs.Statements.{NoCases, NoStatements, SignedCase, Switch}
@@ -17,7 +17,7 @@ use Rattle.wgsl_text.specs.Declarations.{Program, no_declarations}
 use Rattle.wgsl_text.proofs.Declarations.{newest_first, newest_twice}
 use Rattle.wgsl_text.specs.Words.{is_reserved, is_builtin}
 use Rattle.wgsl_text.specs.WorkedTrees.{named_type, name, call, parameter, function, of_functions}
-use Rattle.wgsl_text.specs.WorkedTrees.{member, struct}
+use Rattle.wgsl_text.specs.WorkedTrees.{member, struct, named_size}
 use Rattle.wgsl_text.specs.Reading.{ReadsType, ReadsExpression, Reads}
 use Rattle.wgsl_text.specs.NotInGrammar.{TextsNotInGrammar, IsNoExpression}
 use Rattle.wgsl_text.proofs.Machine.{Reader, Expect, ExpectType, Got, GotType, Bottom, InProgram}
@@ -159,6 +159,15 @@ stage_without_size_tree = record no_declarations {
   entry_points = record { stage = Plain Compute ∷ []; function = function "main" [] NoResult [] [] } ∷ [];
 }
 
+abbrev builtin_size_tree : Program
+builtin_size_tree = record no_declarations {
+  entry_points =
+      record {
+        stage = Plain Compute ∷ WorkgroupSize (named_size "f32") (FixedSize 1) (FixedSize 1) ∷ [];
+        function = function "main" [] NoResult [] [];
+      } ∷ [];
+}
+
 pub refused : TextsNotInGrammar
 unfolding is_reserved is_builtin
 refused = record {
@@ -216,4 +225,6 @@ refused = record {
   unknown_builtin_value = found_program _ unknown_builtin_value_tree refl
       (λ r. false≢true r.form.functions.0.parameters.0.attributes.0);
   stage_without_size = found_program _ stage_without_size_tree refl (λ r. false≢true r.form.entry_points.0.stage);
+  builtin_size = found_program _ builtin_size_tree refl
+      (λ r. false≢true (sym r.form.entry_points.0.attributes.1.0.0.own));
 }

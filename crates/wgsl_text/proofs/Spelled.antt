@@ -45,6 +45,7 @@ attributes = record {
   worded_attributes = refl;
   interpolated_attributes = refl;
   workgroup_size = refl;
+  named_sizes = refl;
 }
 
 pub spelled : SpelledPieces

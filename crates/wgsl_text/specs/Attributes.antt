@@ -2,10 +2,11 @@
 -- together at one place.
 --
 -- Throughout, a is an attribute, w a word, n a number, i an interpolation, s a sampling, p a
--- payload, and g a group.
+-- payload, g a group, and x, y and z are the parts of a workgroup's size.
 use Rattle.std.specs.Prelude.{ℕ, Bool, List, [], ◌∷◌, true, false, ◌++◌, codes, ⊤, IsTrue}
 use Rattle.wgsl_text.specs.Literals.{IsPlainNumber}
-use Rattle.wgsl_text.specs.Token.{OpenParen, CloseParen, Comma, At, Piece, Blank, mark, word, plain}
+use Rattle.wgsl_text.specs.Token.{NoSuffix, Token, Word, Number, Piece, TokenPiece, Blank, At}
+use Rattle.wgsl_text.specs.Token.{OpenParen, CloseParen, Comma, mark, word, plain}
 use Rattle.std.specs.Str.{bytes_eq}
 use Rattle.wgsl_text.specs.Words.{stands_in, IsIdentifier}
 use Rattle.wgsl_text.specs.Tables.{builtin_value_words, interpolation_words, sampling_words}
@@ -23,13 +24,19 @@ pub data NumberedAttribute : Type 0 where
 pub data WordedAttribute : Type 0 where
   Builtin Interpolate Mesh Payload IncomingPayload : WordedAttribute
 
+-- How many invocations a workgroup has along one axis: so many, or what this name stands for. The
+-- name is that of an override, so a pipeline sets the size.
+pub data SizePart : Type 0 where
+  FixedSize : ℕ → SizePart
+  NamedSize : List ℕ → SizePart
+
 pub data Attribute : Type 0 where
   Plain : PlainAttribute → Attribute
   Numbered : NumberedAttribute → ℕ → Attribute
   Worded : WordedAttribute → List ℕ → Attribute
   -- an interpolation and a sampling
   Interpolated : List ℕ → List ℕ → Attribute
-  WorkgroupSize : ℕ → ℕ → ℕ → Attribute
+  WorkgroupSize : SizePart → SizePart → SizePart → Attribute
 
 -- The pieces of attributes.
 
@@ -63,6 +70,13 @@ worded_attribute_word Mesh = codes "mesh"
 worded_attribute_word Payload = codes "payload"
 worded_attribute_word IncomingPayload = codes "incoming_payload"
 
+abbrev pub size_token : SizePart → Token
+size_token (FixedSize n) = Number false n NoSuffix
+size_token (NamedSize w) = Word w
+
+abbrev pub size_piece : SizePart → Piece
+size_piece x = TokenPiece (size_token x)
+
 -- An attribute ends with a blank.
 abbrev pub attribute_pieces : Attribute → List Piece
 attribute_pieces (Plain a) = mark At ∷ word (plain_attribute_word a) ∷ Blank ∷ []
@@ -76,14 +90,19 @@ attribute_pieces (Interpolated i s) =
     mark At ∷ word (codes "interpolate") ∷ mark OpenParen ∷ word i ∷ mark Comma ∷ Blank ∷ word s ∷
     mark CloseParen ∷ Blank ∷ []
 attribute_pieces (WorkgroupSize x y z) =
-    mark At ∷ word (codes "workgroup_size") ∷ mark OpenParen ∷ plain x ∷ mark Comma ∷ Blank ∷
-    plain y ∷ mark Comma ∷ Blank ∷ plain z ∷ mark CloseParen ∷ Blank ∷ []
+    mark At ∷ word (codes "workgroup_size") ∷ mark OpenParen ∷ size_piece x ∷ mark Comma ∷ Blank ∷
+    size_piece y ∷ mark Comma ∷ Blank ∷ size_piece z ∷ mark CloseParen ∷ Blank ∷ []
 
 abbrev pub attributes_pieces : List Attribute → List Piece
 attributes_pieces [] = []
 attributes_pieces (a ∷ more) = attribute_pieces a ++ attributes_pieces more
 
 -- Which attributes the grammar has.
+
+-- a number is plain, and a name is an identifier
+abbrev pub IsSizePart : SizePart → Type 0
+IsSizePart (FixedSize n) = IsPlainNumber n
+IsSizePart (NamedSize w) = IsIdentifier w
 
 -- An attribute's words and numbers are judged by its own table alone.
 abbrev pub IsAttribute : Attribute → Type 0
@@ -94,7 +113,7 @@ IsAttribute (Worded Interpolate w) = IsTrue (stands_in interpolation_words w)
 IsAttribute (Worded _ w) = IsIdentifier w
 IsAttribute (Interpolated i s) =
     IsTrue (stands_in interpolation_words i) × IsTrue (stands_in sampling_words s)
-IsAttribute (WorkgroupSize x y z) = IsPlainNumber x × IsPlainNumber y × IsPlainNumber z
+IsAttribute (WorkgroupSize x y z) = IsSizePart x × IsSizePart y × IsSizePart z
 
 abbrev pub IsAttributes : List Attribute → Type 0
 IsAttributes [] = ⊤

@@ -10,7 +10,7 @@ use Rattle.wgsl_text.specs.Statements.{Assign}
 use Rattle.wgsl_text.specs.Statements.{CallStatement, ReturnValue, Continue, If, LoopBreakIf}
 use Rattle.wgsl_text.specs.Statements.{Switch, NoStatements, NoBlock, SomeBlock, NoCases, Case}
 use Rattle.wgsl_text.specs.Attributes.{Vertex, Fragment, Compute, Location, Id, Group, Binding}
-use Rattle.wgsl_text.specs.Attributes.{Size, Builtin, Interpolate, Plain, Numbered, WorkgroupSize}
+use Rattle.wgsl_text.specs.Attributes.{Size, Builtin, Interpolate, Plain, Numbered, WorkgroupSize, FixedSize}
 use Rattle.wgsl_text.specs.Functions.{NoResult, ResultOf}
 use Rattle.wgsl_text.specs.Declarations.{Program, no_declarations}
 use Rattle.wgsl_text.specs.WorkedTrees.{IsText, lines, named_type, template_of, sized_template}
@@ -19,7 +19,7 @@ use Rattle.wgsl_text.specs.WorkedTrees.{integer, unsigned, call, member_of, let_
 use Rattle.wgsl_text.specs.WorkedTrees.{typed_let_statement}
 use Rattle.wgsl_text.specs.WorkedTrees.{statements, parameter, attributed_parameter, gives, local}
 use Rattle.wgsl_text.specs.WorkedTrees.{function, worded_attribute, member, struct, constant}
-use Rattle.wgsl_text.specs.WorkedTrees.{override, space}
+use Rattle.wgsl_text.specs.WorkedTrees.{override, space, workgroup_size, named_size}
 use Rattle.wgsl_text.specs.WorkedTrees.{space_and_access, global, entry_point, of_functions}
 
 abbrev pub identity : Program
@@ -491,13 +491,33 @@ call_of_function_text = lines (
 abbrev pub compute : Program
 compute = record no_declarations {
   entry_points =
-      entry_point (Plain Compute ∷ WorkgroupSize 64 1 1 ∷ [])
+      entry_point (Plain Compute ∷ workgroup_size 64 1 1 ∷ [])
       (function "main" [] NoResult [] []) ∷ [];
 }
 
 abbrev pub compute_text : List ℕ
 compute_text = lines (
     "@compute @workgroup_size(64, 1, 1) " ∷
+    "fn main() {" ∷
+    "}" ∷ [])
+
+abbrev pub compute_of_overrides : Program
+compute_of_overrides = record no_declarations {
+  overrides =
+      override [] "W" (named_type "u32") None ∷
+      override (Numbered Id 7 ∷ []) "H" (named_type "i32") None ∷ [];
+  entry_points =
+      entry_point
+      (Plain Compute ∷ WorkgroupSize (named_size "W") (FixedSize 4) (named_size "H") ∷ [])
+      (function "main" [] NoResult [] []) ∷ [];
+}
+
+abbrev pub compute_of_overrides_text : List ℕ
+compute_of_overrides_text = lines (
+    "override W: u32;" ∷
+    "@id(7) override H: i32;" ∷
+    "" ∷
+    "@compute @workgroup_size(W, 4, H) " ∷
     "fn main() {" ∷
     "}" ∷ [])
 
@@ -601,7 +621,7 @@ abbrev pub atomic_add : Program
 atomic_add = record no_declarations {
   globals = global [] (space "workgroup") "c" (template_of "atomic" ("u32" ∷ [])) None ∷ [];
   entry_points =
-      entry_point (Plain Compute ∷ WorkgroupSize 1 1 1 ∷ []) (function "main" [] NoResult [] (
+      entry_point (Plain Compute ∷ workgroup_size 1 1 1 ∷ []) (function "main" [] NoResult [] (
       let_statement "_e2"
       (call "atomicAdd" (operands (AddressOf (name "c") ∷ unsigned 1 ∷ []))) ∷ [])) ∷ [];
 }
@@ -700,6 +720,7 @@ pub record WorkedPrograms : Type 0 where
   pub barriers : IsText barriers barriers_text
   pub call_of_function : IsText call_of_function call_of_function_text
   pub compute : IsText compute compute_text
+  pub compute_of_overrides : IsText compute_of_overrides compute_of_overrides_text
   pub struct_names : IsText struct_names struct_names_text
   pub override_with_id : IsText override_with_id override_with_id_text
   pub global_buffer : IsText global_buffer global_buffer_text

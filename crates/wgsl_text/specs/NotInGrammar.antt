@@ -97,3 +97,5 @@ pub record TextsNotInGrammar : Type 0 where
   pub unknown_enable : IsNoProgram (codes "enable f61;\n\n")
   pub unknown_builtin_value : IsNoProgram (codes "fn f(@builtin(colour) x: i32) {\n}\n\n")
   pub stage_without_size : IsNoProgram (codes "@compute \nfn main() {\n}\n")
+  -- a built-in word as the size of a workgroup
+  pub builtin_size : IsNoProgram (codes "@compute @workgroup_size(f32, 1, 1) \nfn main() {\n}\n")

@@ -23,7 +23,7 @@ use Rattle.wgsl_text.specs.Attributes.{Invariant, PerPrimitive, Coherent, Volati
 use Rattle.wgsl_text.specs.Attributes.{Fragment, Task, RayGeneration, AnyHit, ClosestHit, Miss}
 use Rattle.wgsl_text.specs.Attributes.{Location, BlendSource, Id, Group, Binding, Size, Align}
 use Rattle.wgsl_text.specs.Attributes.{Builtin, Interpolate, Mesh, Payload, IncomingPayload, Plain}
-use Rattle.wgsl_text.specs.Attributes.{Numbered, WorkgroupSize}
+use Rattle.wgsl_text.specs.Attributes.{Numbered}
 use Rattle.wgsl_text.specs.Functions.{NoResult, ResultOf}
 use Rattle.wgsl_text.specs.Declarations.{NoSpace, Program, no_declarations}
 use Rattle.wgsl_text.specs.Reading.{printed_type, printed_expression}
@@ -32,7 +32,7 @@ use Rattle.wgsl_text.specs.WorkedTrees.{sized_template}
 use Rattle.wgsl_text.specs.WorkedTrees.{member_of, let_statement, typed_let_statement}
 use Rattle.wgsl_text.specs.WorkedTrees.{attributed_parameter, worded_attribute}
 use Rattle.wgsl_text.specs.WorkedTrees.{interpolated_attribute, member, struct, constant, override}
-use Rattle.wgsl_text.specs.WorkedTrees.{space}
+use Rattle.wgsl_text.specs.WorkedTrees.{space, workgroup_size}
 use Rattle.wgsl_text.specs.WorkedTrees.{global, entry_point, name, integer, unsigned, call}
 use Rattle.wgsl_text.specs.WorkedTrees.{statements, parameter, local, function, of_functions}
 use Rattle.wgsl_text.specs.WorkedTrees.{IsText}
@@ -470,12 +470,12 @@ every_stage = record no_declarations {
       global [] (space "incoming_ray_payload") "hit" (named_type "u32") None ∷
       global [] (space "immediate") "scale" (named_type "f32") None ∷ [];
   entry_points =
-      entry_point (worded_attribute Mesh "out" ∷ WorkgroupSize 1 1 1 ∷ [])
+      entry_point (worded_attribute Mesh "out" ∷ workgroup_size 1 1 1 ∷ [])
       (function "ms" [] NoResult [] []) ∷
       entry_point
-      (worded_attribute Mesh "out" ∷ WorkgroupSize 1 1 1 ∷ worded_attribute Payload "load" ∷ [])
+      (worded_attribute Mesh "out" ∷ workgroup_size 1 1 1 ∷ worded_attribute Payload "load" ∷ [])
       (function "mp" [] NoResult [] []) ∷
-      entry_point (Plain Task ∷ worded_attribute Payload "load" ∷ WorkgroupSize 1 1 1 ∷ [])
+      entry_point (Plain Task ∷ worded_attribute Payload "load" ∷ workgroup_size 1 1 1 ∷ [])
       (function "ts" [] NoResult [] []) ∷
       entry_point (Plain RayGeneration ∷ []) (function "rg" [] NoResult [] []) ∷
       entry_point (Plain AnyHit ∷ worded_attribute IncomingPayload "hit" ∷ [])

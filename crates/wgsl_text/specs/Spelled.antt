@@ -13,7 +13,7 @@ use Rattle.wgsl_text.specs.Attributes.{Invariant, PerPrimitive, Coherent, Volati
 use Rattle.wgsl_text.specs.Attributes.{Fragment, Compute, Task, RayGeneration, AnyHit, ClosestHit}
 use Rattle.wgsl_text.specs.Attributes.{Miss, Location, BlendSource, Id, Group, Binding, Size, Align}
 use Rattle.wgsl_text.specs.Attributes.{Builtin, Interpolate, Mesh, Payload, IncomingPayload, Plain}
-use Rattle.wgsl_text.specs.Attributes.{Numbered, Worded, Interpolated, WorkgroupSize}
+use Rattle.wgsl_text.specs.Attributes.{Numbered, Worded, Interpolated, WorkgroupSize, FixedSize, NamedSize}
 use Rattle.wgsl_text.specs.Attributes.{attributes_pieces}
 use Rattle.wgsl_text.specs.Tables.{vector_words, matrix_words, atomic_words, array_words}
 use Rattle.wgsl_text.specs.Tables.{pointer_words, sampled_image_words, depth_image_words}
@@ -105,8 +105,12 @@ pub record SpelledAttributes : Type 0 where
   pub interpolated_attributes : text
       (attributes_pieces (Interpolated (codes "i") (codes "s") ∷ [])) ≡
       codes "@interpolate(i, s) "
-  pub workgroup_size : text (attributes_pieces (WorkgroupSize 1 2 3 ∷ [])) ≡
+  pub workgroup_size : text
+      (attributes_pieces (WorkgroupSize (FixedSize 1) (FixedSize 2) (FixedSize 3) ∷ [])) ≡
       codes "@workgroup_size(1, 2, 3) "
+  pub named_sizes : text (attributes_pieces (
+      WorkgroupSize (NamedSize (codes "W")) (FixedSize 2) (NamedSize (codes "D")) ∷ [])) ≡
+      codes "@workgroup_size(W, 2, D) "
 
 pub record SpelledPieces : Type 0 where
   pub types : SpelledTypes

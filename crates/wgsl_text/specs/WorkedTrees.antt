@@ -1,7 +1,8 @@
 -- Short words for worked trees, and what their text is.
 --
 -- Throughout, w is a word, t a type, e an expression, s a statement or an address space, n a
--- number, f a function, a an attribute or a space, m an access, and i an interpolation.
+-- number, f a function, a an attribute or a space, m an access, i an interpolation, and x, y and z
+-- the sizes of a workgroup.
 use Prim.Native.String.{String}
 use Rattle.std.specs.Prelude.{◌≡◌, ℕ, false, List, [], ◌∷◌, ◌++◌, codes, Option}
 use Rattle.wgsl_text.specs.Token.{SuffixI, SuffixU}
@@ -13,6 +14,7 @@ use Rattle.wgsl_text.specs.Expressions.{Expression, Constant, Name, Call, Member
 use Rattle.wgsl_text.specs.Expressions.{NoArguments, Argument}
 use Rattle.wgsl_text.specs.Statements.{Statement, Let, TypedLet, Statements, NoStatements, Then}
 use Rattle.wgsl_text.specs.Attributes.{WordedAttribute, Attribute, Worded, Interpolated}
+use Rattle.wgsl_text.specs.Attributes.{WorkgroupSize, SizePart, FixedSize, NamedSize}
 use Rattle.wgsl_text.specs.Functions.{Parameter, Result, ResultOf, Local, Function, EntryPoint}
 use Rattle.wgsl_text.specs.Declarations.{StructMember, Struct, NamedConstant, Override, Space}
 use Rattle.wgsl_text.specs.Declarations.{SpaceAlone, SpaceAndAccess, Global, Program}
@@ -106,6 +108,14 @@ worded_attribute a w = Worded a (codes w)
 
 abbrev pub interpolated_attribute : String → String → Attribute
 interpolated_attribute i s = Interpolated (codes i) (codes s)
+
+-- a size of numbers alone
+abbrev pub workgroup_size : ℕ → ℕ → ℕ → Attribute
+workgroup_size x y z = WorkgroupSize (FixedSize x) (FixedSize y) (FixedSize z)
+
+-- the size that this name stands for, along an axis
+abbrev pub named_size : String → SizePart
+named_size w = NamedSize (codes w)
 
 abbrev pub member : List Attribute → String → TypeSpecifier → StructMember
 member attributes w t = record { attributes = attributes; name = codes w; type = t }

@@ -47,3 +47,8 @@ pub fn push_line(line: &str, answer: &mut String) -> Result<(), AllocError> {
 pub fn text_in<'a>(case: &Value<'a>, member: &str) -> Option<&'a str> {
     case.get(member).and_then(Value::as_str)
 }
+
+/// Whether a member of the case is `true`.
+pub fn is_told(case: &Value<'_>, member: &str) -> bool {
+    case.get(member).and_then(Value::as_bool) == Some(true)
+}

@@ -1,6 +1,6 @@
 //! The names of what a module declares.
 
-use crate::answers::push_line;
+use crate::answers::{is_told, push_line};
 use crate::names::push_names_by;
 use json::Value;
 use naga_ir::Module;
@@ -20,7 +20,10 @@ pub fn push_items(alloc: Global, case: &Value<'_>, answer: &mut String) -> Resul
         return push_line("no module", answer);
     };
     match module_of(alloc, module) {
-        Ok(module) => push_module(alloc, &module, case, answer),
+        Ok(mut module) => {
+            module.keeps_digits = is_told(case, "digits");
+            push_module(alloc, &module, case, answer)
+        }
         Err(error) => {
             let line = format!(in alloc; "not read: {error}")?;
             push_line(line.as_str(), answer)

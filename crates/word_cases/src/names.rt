@@ -1,6 +1,6 @@
 //! The names that a namer gives to labels.
 
-use crate::answers::{push_line, text_in};
+use crate::answers::{is_told, push_line, text_in};
 use json::Value;
 use naga_names::namer::{Namer, NamerError};
 use std::alloc::{AllocError, Global};
@@ -11,6 +11,9 @@ pub fn push_names(alloc: Global, case: &Value<'_>, answer: &mut String) -> Resul
         Some("wgsl") => Namer::for_wgsl(alloc)?,
         _ => Namer::default(alloc),
     };
+    if is_told(case, "digits") {
+        namer.keep_digits();
+    }
     push_names_by(alloc, &mut namer, case, answer)
 }
 

@@ -43,11 +43,11 @@ unread = stops _ refl
 module _ (r : Rest) where
   f_is : name_in (module_names (barrier_module r)) (key.Function 0) ≡ codes "f"
   unfolding module_names wgsl_names stem_of ascii_of hexadecimal digits is_numeric ucd_category chars
-  f_is = f_stays
+  f_is = f_stays (barrier_module r)
 
   c_is : name_in (module_names (barrier_module r)) (key.FunctionArgument 0 0) ≡ codes "c"
   unfolding module_names wgsl_names stem_of ascii_of hexadecimal digits is_numeric ucd_category chars
-  c_is = c_stays
+  c_is = c_stays (barrier_module r)
 
   all : all_hold (checks r (boolean ∷ []) (barrier_function r) expressions_known) ≡ true
   unfolding is_accepted module_ranges_fit module_is_sound type_segments handle_key digits

@@ -51,11 +51,11 @@ unread =
 module _ (r : Rest) where
   f_is : name_in (module_names (negation_module r)) (key.Function 0) ≡ codes "f"
   unfolding module_names wgsl_names stem_of ascii_of hexadecimal digits is_numeric ucd_category chars
-  f_is = f_stays
+  f_is = f_stays (negation_module r)
 
   v_is : name_in (module_names (negation_module r)) (key.FunctionArgument 0 0) ≡ codes "v"
   unfolding module_names wgsl_names stem_of ascii_of hexadecimal digits is_numeric ucd_category chars
-  v_is = v_stays
+  v_is = v_stays (negation_module r)
 
   all : all_hold (checks r types (negation_function r) expressions_known) ≡ true
   unfolding is_accepted module_ranges_fit module_is_sound type_segments handle_key digits

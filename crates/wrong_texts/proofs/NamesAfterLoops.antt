@@ -48,15 +48,15 @@ reading = program_has_one_reading wrong form
 module _ (r : Rest) where
   f_is : name_in (module_names (loop_module r)) (key.Function 0) ≡ codes "f"
   unfolding module_names wgsl_names stem_of ascii_of hexadecimal digits is_numeric ucd_category chars
-  f_is = f_stays
+  f_is = f_stays (loop_module r)
 
   c_is : name_in (module_names (loop_module r)) (key.FunctionArgument 0 0) ≡ codes "c"
   unfolding module_names wgsl_names stem_of ascii_of hexadecimal digits is_numeric ucd_category chars
-  c_is = c_stays
+  c_is = c_stays (loop_module r)
 
   x_is : name_in (module_names (loop_module r)) (key.FunctionArgument 0 1) ≡ codes "x"
   unfolding module_names wgsl_names stem_of ascii_of hexadecimal digits is_numeric ucd_category chars
-  x_is = x_stays
+  x_is = x_stays (loop_module r)
 
   all : all_hold (checks r (boolean ∷ integer ∷ []) (loop_function r) expressions_known) ≡ true
   unfolding is_accepted module_ranges_fit module_is_sound type_segments handle_key digits

@@ -69,11 +69,11 @@ module _ (r : Rest) where
 
   f_is : name_in (module_names (pointer_module r)) (key.Function 0) ≡ codes "f"
   unfolding module_names wgsl_names stem_of ascii_of hexadecimal digits is_numeric ucd_category chars
-  f_is = f_stays
+  f_is = f_stays (pointer_module r)
 
   p_is : name_in (module_names (pointer_module r)) (key.FunctionArgument 0 0) ≡ codes "p"
   unfolding module_names wgsl_names stem_of ascii_of hexadecimal digits is_numeric ucd_category chars
-  p_is = p_stays
+  p_is = p_stays (pointer_module r)
 
   all : all_hold (checks r types (pointer_function r) expressions_known) ≡ true
   unfolding is_accepted module_ranges_fit module_is_sound type_segments handle_key

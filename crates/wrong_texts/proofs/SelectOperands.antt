@@ -75,19 +75,19 @@ module _ (r : Rest) where
 
   f_is : name_in (module_names (select_module r)) (key.Function 0) ≡ codes "f"
   unfolding module_names wgsl_names stem_of ascii_of hexadecimal digits is_numeric ucd_category chars
-  f_is = f_stays
+  f_is = f_stays (select_module r)
 
   c_is : name_in (module_names (select_module r)) (key.FunctionArgument 0 0) ≡ codes "c"
   unfolding module_names wgsl_names stem_of ascii_of hexadecimal digits is_numeric ucd_category chars
-  c_is = c_stays
+  c_is = c_stays (select_module r)
 
   x_is : name_in (module_names (select_module r)) (key.FunctionArgument 0 1) ≡ codes "x"
   unfolding module_names wgsl_names stem_of ascii_of hexadecimal digits is_numeric ucd_category chars
-  x_is = x_stays
+  x_is = x_stays (select_module r)
 
   y_is : name_in (module_names (select_module r)) (key.FunctionArgument 0 2) ≡ codes "y"
   unfolding module_names wgsl_names stem_of ascii_of hexadecimal digits is_numeric ucd_category chars
-  y_is = y_stays
+  y_is = y_stays (select_module r)
 
   all : all_hold (checks r (boolean ∷ integer ∷ []) (select_function r) expressions_known) ≡ true
   unfolding is_accepted module_ranges_fit module_is_sound type_segments handle_key

@@ -52,15 +52,15 @@ reading = program_has_one_reading wrong form
 module _ (r : Rest) where
   f_is : name_in (module_names (skipping_module r)) (key.Function 0) ≡ codes "f"
   unfolding module_names wgsl_names stem_of ascii_of hexadecimal digits is_numeric ucd_category chars
-  f_is = f_stays
+  f_is = f_stays (skipping_module r)
 
   c_is : name_in (module_names (skipping_module r)) (key.FunctionArgument 0 0) ≡ codes "c"
   unfolding module_names wgsl_names stem_of ascii_of hexadecimal digits is_numeric ucd_category chars
-  c_is = c_stays
+  c_is = c_stays (skipping_module r)
 
   a_is : name_in (module_names (skipping_module r)) (key.FunctionLocal 0 0) ≡ codes "a"
   unfolding module_names wgsl_names stem_of ascii_of hexadecimal digits is_numeric ucd_category chars
-  a_is = a_stays
+  a_is = a_stays (skipping_module r)
 
   all : all_hold (checks r (boolean ∷ integer ∷ []) (skipping_function r) expressions_known) ≡ true
   unfolding is_accepted module_ranges_fit module_is_sound type_segments handle_key digits

@@ -10,9 +10,7 @@
         says how many bytes of the stack a level of each kind takes, by the deepest module that the program writes in 1 MB
         and in 2 MB.
 
-With the last words `--nesting N` the program is asked with them: one that was compiled without a proof takes more of the
-stack for a level, and is to be asked with 1,000. It takes a hundred times as long too, so that the gate asks it for none that
-are deeper than 10,000.
+With the last words `--nesting N` the program is asked with them.
 """
 
 import json
@@ -56,8 +54,6 @@ def asked(limit, is_short):
 
 
 def is_asked_in_short(limit, kind, depth, way):
-    if limit < STANDARD and depth > 10_000:
-        return False
     # their texts are long, and are made for each way but two
     is_long_text = "compositions" in kind and depth == limit and way in ("--explain", "--lines")
     is_at_limit = depth in (limit, limit + 1) and not is_long_text

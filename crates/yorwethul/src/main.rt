@@ -2,7 +2,8 @@
 //!
 //! `yorwethul MODULE.json` prints the text of one module, with decimal floats and with what
 //! standard compilers ask for; `--plain` leaves both out. `yorwethul --layout MODULE.json`
-//! tells where the members of its structs stand, `yorwethul --explain MODULE.json` shows why it has
+//! tells where the members of its structs stand, `yorwethul --names MODULE.json` which identifier
+//! stands for which item, `yorwethul --explain MODULE.json` shows why it has
 //! no text, and `yorwethul --lines` answers many, one a line.
 #![tactic(auto)]
 

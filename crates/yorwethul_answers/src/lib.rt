@@ -3,6 +3,7 @@
 
 mod explanation;
 mod lines;
+mod names;
 mod program;
 mod texts;
 mod untyped;

@@ -1,5 +1,6 @@
 //! Many modules: each line of the input is answered by a line of the output.
 
+use crate::names::names_beside;
 use crate::texts::write_in;
 use fault_details::explain;
 use json::Scratch;
@@ -149,10 +150,14 @@ fn style_in(query: &json::Value<'_>, style: Style) -> Result<Style, &'static str
     let Some(plain) = truth_in(query, "plain", style.plain) else {
         return Err("plain: no truth value");
     };
+    let Some(names) = truth_in(query, "names", style.names) else {
+        return Err("names: no truth value");
+    };
     let limits = limits_in(query, style.limits)?;
     Ok(Style {
         explicit_types,
         plain,
+        names,
         limits,
     })
 }
@@ -219,7 +224,8 @@ fn tell_given(
                 info,
                 holder,
             };
-            tell_shader(alloc, &mut shader, style, members)
+            tell_shader(alloc, &mut shader, style, members)?;
+            tell_names(alloc, &mut shader, style, members)
         }
         Err(unasked) => tell_unasked(alloc, &module, unasked, holder, members),
     }
@@ -237,6 +243,23 @@ fn tell_shader(
             tell_unaccepted(alloc, shader, unaccepted, members)
         }
         Err(NoOutcome::TooLong) => tell_limited(alloc, NoOutcome::TooLong, members),
+    }
+}
+
+/// Tells the names of a module beside what was told of its text, where that is asked for and the module
+/// is accepted.
+fn tell_names(
+    alloc: Global,
+    shader: &mut Shader,
+    style: Style,
+    members: &mut Members,
+) -> Result<(), AllocError> {
+    if !style.names || members.contains_key("not_accepted") {
+        return Ok(());
+    }
+    match names_beside(alloc, style, shader)? {
+        Some(names) => put(alloc, "names", names, members),
+        None => Ok(()),
     }
 }
 

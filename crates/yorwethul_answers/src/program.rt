@@ -2,6 +2,7 @@
 
 use crate::explanation::{Explanation, explained, unasked_explained};
 use crate::lines::answer_lines;
+use crate::names::names_line;
 use crate::texts::write_in;
 use module_answers::{
     NoOutcome, Shader, Unasked, WriteOutcome, holder_of, info_within, layout_table, refusal_line,
@@ -168,6 +169,7 @@ fn answer<O: Write, E: Write>(
     match invocation.task {
         Task::Check => check(alloc, shader, out, err),
         Task::Layout => tell_layouts(alloc, shader, out, err),
+        Task::Names => tell_names(alloc, invocation.style, shader, out, err),
         Task::Explain => explain(explained(alloc, invocation.style, shader), out, err),
         Task::Write | Task::Lines => print_text(alloc, invocation.style, shader, out, err),
     }
@@ -237,6 +239,23 @@ fn tell_layouts<O: Write, E: Write>(
         Some(fault) => refuse_unaccepted(alloc, shader, fault, err),
         None => match layout_table(alloc, &shader.module, &shader.info) {
             Ok(table) => print(table, out, err),
+            Err(error) => tell_error(error, err),
+        },
+    }
+}
+
+/// Prints which identifier stands for which item of the module.
+fn tell_names<O: Write, E: Write>(
+    alloc: Global,
+    style: Style,
+    shader: &mut Shader,
+    out: &mut O,
+    err: &mut E,
+) -> u8 {
+    match unaccepted(&shader.module, &shader.info) {
+        Some(fault) => refuse_unaccepted(alloc, shader, fault, err),
+        None => match names_line(alloc, style, shader) {
+            Ok(line) => print(line, out, err),
             Err(error) => tell_error(error, err),
         },
     }

@@ -3,7 +3,7 @@ use Rattle.std.proofs.Common.{◌≡◌, ◌≤◌, ◌∙◌, ℕ, List, [], Er
 use Rattle.std.proofs.Common.{Result, Some, ap, inl, inr, is_none, length, refl, subst, sym, arith}
 use Rattle.std.specs.Prelude.{Bool, true, false}
 use Rattle.std.proofs.lemmas.Bool.{le-leb, lt-leb}
-use Rattle.decimal_floats.specs.Decimals.{IsDecimalModule}
+use Rattle.decimal_floats.specs.Decimals.{IsDecimalModule, keeping_digits}
 use Rattle.std.specs.Prelude.{◌<◌, ◌%◌, IfSome, IsTrue}
 use Rattle.naga_ir.specs.declared.module.Module.{Module}
 use Rattle.naga_info.specs.declared.info.ModuleInfo.{ModuleInfo}
@@ -22,16 +22,19 @@ use Rattle.naga_acceptance.specs.FirstFaults.{IsFirstFault}
 use Rattle.naga_acceptance.specs.declared.faults.Unaccepted.{Unaccepted}
 use Rattle.naga_wgsl_out.specs.declared.unwritable.Refusal.{Refusal}
 use Rattle.module_positions.specs.Faults.{TellsFaultAt}
-use Rattle.module_answers.specs.Shaders.{TellsUnasked, TellsUntypedAt, holder_of}
+use Rattle.module_answers.specs.Shaders.{IsInfoOf, TellsUnasked, TellsUntypedAt, holder_of}
+use Rattle.module_answers.specs.declared.shaders.Shader.{Shader}
+use Rattle.module_limits.specs.Nesting.{nested_past}
+use Rattle.naga_json.specs.declared.modules.Given.{Given}
+use Rattle.module_answers.specs.Wants.{IsDecimalUnlessWanting}
 use Rattle.module_answers.specs.WriteOutcomes.{TellsBeside}
 use Rattle.module_answers.specs.declared.shaders.Unasked.{Unasked}
 use Rattle.module_answers.specs.declared.shaders.Unasked.TheVariants as unasked
 use Rattle.module_positions.specs.declared.positions.JsonHolder.{JsonHolder}
-use Rattle.module_positions.specs.declared.positions.JsonHolder.TheVariants as holder
 use Rattle.module_answers.specs.Within.{IsUnwritten}
 use Rattle.module_answers.specs.declared.within.NoOutcome.{NoOutcome}
 use Rattle.module_answers.specs.declared.within.NoOutcome.TheVariants as unwritten
-use Rattle.yorwethul_c.specs.Answers.{IsAccepted, IsRefused, IsTooLong}
+use Rattle.yorwethul_c.specs.Answers.{IsAccepted, IsGivenIn, IsRefused, IsTooLong}
 use Rattle.yorwethul_c.specs.Answers.{WasWritten, LacksMemory, Says, SaysOfError, SaysOfUnasked}
 use Rattle.yorwethul_c.specs.Answers.{SaysOfUnwritten, SaysOfWritten, SaysThat, TellsAnyRefusal}
 use Rattle.yorwethul_c.specs.Answers.{TellsOfChecking, TellsOfFault, TellsOfLayouts, WasRead}
@@ -107,31 +110,43 @@ unread_laid_out json status.TooLong text tells = absurd tells
 
 -- ---- what was read
 
--- JSON that is the module itself has no info
-pub bare_alone : (is_bare : Bool) (came : Option ModuleInfo) → (IsTrue is_bare → came ≡ None) →
-    holder_of is_bare ≡ holder.Module → came ≡ None
-bare_alone true came alone is = alone refl
-bare_alone false came alone is = absurd cc
+-- a module with what is known of it, made of what was given
+pub read_so : (json : List ℕ) (given : Given) {E : Type 0} (made : Result Shader E) → IsGivenIn json given →
+    IfOk made (λ s. s.module ≡ given.module) → IfOk made (λ s. s.holder ≡ holder_of given.is_bare) →
+    IfOk made (λ s. IsInfoOf given.module given.info s.info) →
+    IfOk made (λ _. nested_past deepest_nesting given.module ≡ None) →
+    IfOk made (λ s. WasRead json s.holder s.module s.info)
+read_so json given (Err e) stands own holds known nested = tt
+read_so json given (Ok s) stands own holds known nested = record {
+  given = given;
+  stands = stands;
+  holder_is = holds;
+  module_is = own;
+  nested = subst (λ m. nested_past deepest_nesting m ≡ None) (sym own) nested;
+  known = subst (λ m. IsInfoOf m given.info s.info) (sym own) known;
+}
 
 -- nothing more is asked of a module
-pub not_asked : (json : List ℕ) (from : JsonHolder) (m : Module) (came : Option ModuleInfo) (reason : Unasked)
-    (told : Status) (text : List ℕ) → TellsUnasked deepest_nesting m came reason →
-    SaysOfUnasked from m reason told text → TellsOfReading json told text
-not_asked json from m came (unasked.TooDeep nested) told text is says =
-    said (TellsOfReading json) status.TooDeep told text (inr (record { m = m; nested = nested; past = is })) refl says
-not_asked json from m came (unasked.Untyped untyped) told text is says =
-    said_that (TellsOfReading json) (TellsUntypedAt from m untyped) status.NotAccepted told text
-    (λ line. record { from = from; m = m; came = came; untyped = untyped; is = is; line = line }) refl says
-not_asked json from m came (unasked.Memory error) told text is says =
+pub not_asked : (json : List ℕ) (given : Given) (reason : Unasked) (told : Status) (text : List ℕ) →
+    IsGivenIn json given → TellsUnasked deepest_nesting given.module given.info reason →
+    SaysOfUnasked (holder_of given.is_bare) given.module reason told text → TellsOfReading json told text
+not_asked json given (unasked.TooDeep nested) told text stands is says =
+    said (TellsOfReading json) status.TooDeep told text
+    (inr (record { given = given; stands = stands; nested = nested; past = is })) refl says
+not_asked json given (unasked.Untyped untyped) told text stands is says =
+    said_that (TellsOfReading json) (TellsUntypedAt (holder_of given.is_bare) given.module untyped) status.NotAccepted
+    told text
+    (λ line. record { given = given; stands = stands; untyped = untyped; is = is; line = line }) refl says
+not_asked json given (unasked.Memory error) told text stands is says =
     lacking (TellsOfReading json) told text refl says
 
 -- ---- what was asked of the module
 
-pub faulty : (from : JsonHolder) (m : Module) (read : ModuleInfo) (found : Option Unaccepted) (fault : Unaccepted)
-    (text : List ℕ) → WasRead from m read →
+pub faulty : (json : List ℕ) (from : JsonHolder) (m : Module) (read : ModuleInfo) (found : Option Unaccepted)
+    (fault : Unaccepted) (text : List ℕ) → WasRead json from m read →
     found ≡ Some fault → IfSome found (IsFirstFault m read) → TellsFaultAt from m read fault text →
-    TellsOfFault text
-faulty from m read found fault text was_read is fails line =
+    TellsOfFault json text
+faulty json from m read found fault text was_read is fails line =
     inl (record {
       from = from;
       m = m;
@@ -143,11 +158,11 @@ faulty from m read found fault text was_read is fails line =
     })
 
 -- what was asked of the writer
-abbrev was_asked : (flags : ℕ) (writer : WriterFlags) (from : JsonHolder) (given m : Module)
-    (read info : ModuleInfo) → flags ≤ 7 → bits_of writer ≡ flags % 4 → WasRead from given read →
+abbrev was_asked : (json : List ℕ) (flags : ℕ) (writer : WriterFlags) (from : JsonHolder) (given m : Module)
+    (read info : ModuleInfo) → flags ≤ 7 → bits_of writer ≡ flags % 4 → WasRead json from given read →
     IsAsAsked (asks_decimal_floats flags) given m →
-    IsTrue (is_accepted given read) → IsCounted m read info → WasAsked flags
-was_asked flags writer from given m read info known bits was_read asked accepted counted = record {
+    IsTrue (is_accepted given read) → IsCounted m read info → WasAsked json flags
+was_asked json flags writer from given m read info known bits was_read asked accepted counted = record {
   flags_are_known = known;
   writer = writer;
   has_bits = bits;
@@ -165,7 +180,7 @@ was_asked flags writer from given m read info known bits was_read asked accepted
 -- the writer was not asked for it, or was stopped
 pub not_written : (json : List ℕ) (flags : ℕ) (writer : WriterFlags) (from : JsonHolder) (given m : Module)
     (read info : ModuleInfo) (reason : NoOutcome) (told : Status) (text : List ℕ) →
-    flags ≤ 7 → bits_of writer ≡ flags % 4 → WasRead from given read →
+    flags ≤ 7 → bits_of writer ≡ flags % 4 → WasRead json from given read →
     (reason ≡ unwritten.TooLong → IsAsAsked (asks_decimal_floats flags) given m) →
     IsUnwritten writer longest_text given m read info reason →
     SaysOfUnwritten from m info reason told text → TellsOfWriting json flags told text
@@ -184,13 +199,13 @@ not_written json flags writer from given m read info (unwritten.NotAccepted faul
     })) refl says
 not_written json flags writer from given m read info unwritten.TooLong told text known bits was_read asked is says =
     let asking =
-    was_asked flags writer from given m read info known bits was_read (asked refl) is.accepted is.counted in
-    let long : IsTooLong flags = record { asked = asking; longer = is.longer } in
+    was_asked json flags writer from given m read info known bits was_read (asked refl) is.accepted is.counted in
+    let long : IsTooLong json flags = record { asked = asking; past = is.past } in
     said (TellsOfWriting json flags) status.TooLong told text long refl says
 
-pub accepted_by : (from : JsonHolder) (m : Module) (read : ModuleInfo) (found : Option Unaccepted) →
-    WasRead from m read → found ≡ None → is_none found ≡ is_accepted m read → IsAccepted
-accepted_by from m read found was_read is accepts =
+pub accepted_by : (json : List ℕ) (from : JsonHolder) (m : Module) (read : ModuleInfo) (found : Option Unaccepted) →
+    WasRead json from m read → found ≡ None → is_none found ≡ is_accepted m read → IsAccepted json
+accepted_by json from m read found was_read is accepts =
     record { from = from; m = m; read = read; was_read = was_read; accepted = sym accepts ∙ ap is_none is }
 
 -- ---- what the writer did
@@ -199,7 +214,7 @@ accepted_by from m read found was_read is accepts =
 stopped : (json : List ℕ) (flags : ℕ) (writer : WriterFlags) (from : JsonHolder) (m : Module) (info : ModuleInfo)
     (refusal : Option Refusal) (e : Error) (told : Status) (text : List ℕ) →
     IsRefusal (annotates_types writer) m info 0 0 e →
-    (TellsOfModule e → TellsAnyRefusal from m refusal text → IsRefused flags text) →
+    (TellsOfModule e → TellsAnyRefusal from m refusal text → IsRefused json flags text) →
     SaysOfError from m refusal e told text → TellsOfWriting json flags told text
 stopped json flags writer from m info refusal (error.Memory e) told text reason is says =
     said_that (TellsOfWriting json flags) (TellsAnyRefusal from m refusal) status.OutOfMemory told text
@@ -223,7 +238,10 @@ at_most_seven flags less = omega arith
 pub as_given : (flags : ℕ) (m : Module) → flags < 4 → IsAsAsked (asks_decimal_floats flags) m m
 as_given flags m less = subst (λ asked. IsAsAsked asked m m) (sym (lt-leb 4 flags less)) refl
 
-pub with_decimal_floats : (flags : ℕ) (given m : Module) → 4 ≤ flags → IsDecimalModule given m →
+pub not_decimal : (flags : ℕ) {X : Type 0} → flags < 4 → IsTrue (asks_decimal_floats flags) → X
+not_decimal flags less asked = (let false_is : false ≡ true = sym (lt-leb 4 flags less) ∙ asked in absurd cc)
+
+pub with_decimal_floats : (flags : ℕ) (given m : Module) → 4 ≤ flags → IsDecimalModule (keeping_digits given) m →
     IsAsAsked (asks_decimal_floats flags) given m
 with_decimal_floats flags given m more decimal =
     subst (λ asked. IsAsAsked asked given m) (sym (le-leb 4 flags more)) decimal
@@ -231,17 +249,17 @@ with_decimal_floats flags given m more decimal =
 -- what the writer did when asked
 module _ (json : List ℕ) (flags : ℕ) (writer : WriterFlags) (from : JsonHolder) (given m : Module)
     (read info : ModuleInfo) (content : List ℕ) (known : flags ≤ 7) (bits : bits_of writer ≡ flags % 4)
-    (was_read : WasRead from given read) (asked : IsAsAsked (asks_decimal_floats flags) given m)
+    (was_read : WasRead json from given read) (asked : IsAsAsked (asks_decimal_floats flags) given m)
     (accepted : IsTrue (is_accepted given read))
     (counted : IsCounted m read info) where
-  abbrev asking : WasAsked flags
-  asking = was_asked flags writer from given m read info known bits was_read asked accepted counted
+  abbrev asking : WasAsked json flags
+  asking = was_asked json flags writer from given m read info known bits was_read asked accepted counted
 
   -- an error that tells of the module is a refusal, which is told beside it
   refusing : (e : Error) (refusal : Option Refusal) (text : List ℕ) →
       FaithfulWriting writer m info (Err e) [] content 0 0 →
       TellsBeside (annotates_types writer) m info (Err e) refusal → TellsOfModule e →
-      TellsAnyRefusal from m refusal text → IsRefused flags text
+      TellsAnyRefusal from m refusal text → IsRefused json flags text
   refusing e None text faithful beside tells line = absurd (beside tells)
   refusing e (Some refusal) text faithful beside tells line = record {
     asked = asking;
@@ -254,18 +272,19 @@ module _ (json : List ℕ) (flags : ℕ) (writer : WriterFlags) (from : JsonHold
   }
 
   pub wrote : (answer : Result Unit Error) (refusal : Option Refusal) (told : Status) (text : List ℕ) →
-      FaithfulWriting writer m info answer [] content 0 0 → AppendsItsText m info writer answer [] content →
+      (IsTrue (asks_decimal_floats flags) → IsDecimalUnlessWanting answer m) → FaithfulWriting writer m info answer [] content 0 0 → AppendsItsText m info writer answer [] content →
       TellsBeside (annotates_types writer) m info answer refusal → length content ≤ longest_text →
       SaysOfWritten from m answer refusal content told text → TellsOfWriting json flags told text
-  wrote (Ok tt) refusal told text faithful appends beside within is =
-      let done : WasWritten flags text =
+  wrote (Ok tt) refusal told text complete faithful appends beside within is =
+      let done : WasWritten json flags text =
       record {
         asked = asking;
         faithful = subst (λ now. FaithfulWriting writer m info (Ok tt) [] now 0 0) (sym is.1) faithful;
         text_is = is.1 ∙ appends;
+        complete = complete;
         is_within = subst (λ t. length t ≤ longest_text) (sym is.1) within;
       } in
       subst (λ s. TellsOfWriting json flags s text) (sym is.0) done
-  wrote (Err e) refusal told text faithful appends beside within says =
+  wrote (Err e) refusal told text complete faithful appends beside within says =
       stopped json flags writer from m info refusal e told text faithful.refusals
       (refusing e refusal text faithful beside) says

@@ -1,8 +1,8 @@
 -- What a call from C answers: a status, and a text in the caller's memory.
 --
--- Throughout, m is a module, read is what is known of it, info is the same with the uses counted,
--- came is the info that came with it, if one did, from is what the JSON holds by which positions are
--- told, and json is the bytes that a call was given.
+-- Throughout, json is the bytes that a call was given, given is what was read of them, m is a module,
+-- read is what is known of it, info is the same with the uses counted, and from is what the JSON holds
+-- by which positions are told.
 use Rattle.std.specs.Prelude.{◌≡◌, ◌<◌, ◌≤◌, ⊤, ℕ, ◌%◌, ◌++◌, ◌⊎◌, Bool, true, false, IsTrue}
 use Rattle.std.specs.Prelude.{List, [], None, Option, Some, length}
 use Rattle.std.specs.Option.{IfSome}
@@ -16,14 +16,13 @@ use Rattle.naga_acceptance.specs.declared.faults.Unaccepted.{Unaccepted}
 use Rattle.module_semantics.specs.acceptance.Accepted.{is_accepted}
 use Rattle.module_positions.specs.Faults.{TellsFaultAt}
 use Rattle.module_answers.specs.Refusals.{TellsRefusalAt}
-use Rattle.module_answers.specs.Shaders.{IsInfoOf, TellsUntypedAt}
+use Rattle.module_answers.specs.Shaders.{IsInfoOf, TellsUntypedAt, holder_of}
 use Rattle.module_answers.specs.Shaders as shaders
 use Rattle.module_answers.specs.WriteOutcomes.{TellsRefusal}
 use Rattle.module_answers.specs.declared.shaders.Unasked.{Unasked}
 use Rattle.module_answers.specs.declared.shaders.Unasked.TheVariants as unasked
 use Rattle.naga_inference.specs.declared.errors.Untyped.{Untyped}
 use Rattle.module_positions.specs.declared.positions.JsonHolder.{JsonHolder}
-use Rattle.module_positions.specs.declared.positions.JsonHolder.TheVariants as holder
 use Rattle.module_answers.specs.declared.within.NoOutcome.{NoOutcome}
 use Rattle.module_answers.specs.declared.within.NoOutcome.TheVariants as unwritten
 use Rattle.module_limits.specs.Nesting.{nested_past}
@@ -33,9 +32,11 @@ use Rattle.wgsl_text.specs.Reading.{printed_program}
 use Rattle.naga_refusals.specs.declared.error.Error.{Error}
 use Rattle.naga_refusals.specs.declared.error.Error.TheVariants as error
 use Rattle.naga_wgsl_out.specs.Checked.{IsCounted}
+use Rattle.naga_json.specs.declared.modules.Given.{Given}
 use Rattle.naga_wgsl_out.specs.Headline.{FaithfulWriting}
+use Rattle.naga_wgsl_out.specs.Within.{IsPastBound}
 use Rattle.naga_wgsl_out.specs.declared.unwritable.Refusal.{Refusal}
-use Rattle.decimal_floats.specs.Decimals.{IsDecimalModule}
+use Rattle.decimal_floats.specs.Decimals.{IsDecimalModule, IsDecimalThroughout, keeping_digits}
 use Rattle.module_positions.specs.JsonNesting.{nest_too_deep}
 use Rattle.yorwethul_c.specs.declared.status.Status.{Status}
 use Rattle.yorwethul_c.specs.declared.status.Status.TheVariants as status
@@ -87,27 +88,35 @@ longest_text = 67108864
 abbrev pub deepest_nesting : ℕ
 deepest_nesting = 4000
 
--- Of the flags in yorwethul.h the two lowest bits are the writer's own. The next one asks that the
--- floats of a module are made decimal before it is written; else it is written as it is given.
+-- Of the flags in yorwethul.h the two lowest bits are the writer's own. The next one asks that names
+-- keep their digits and the floats of a module are made decimal before it is written; else it is
+-- written as it is given.
 abbrev pub IsAsAsked : (are_decimal : Bool) → (given m : Module) → Type 0
-IsAsAsked true given m = IsDecimalModule given m
+IsAsAsked true given m = IsDecimalModule (keeping_digits given) m
 IsAsAsked false given m = m ≡ given
 
 abbrev pub asks_decimal_floats : (flags : ℕ) → Bool
 asks_decimal_floats flags = nat_le 4 flags
 
--- A module was read that is nested no deeper than it may be. What is known of it is the info that
--- came with it, or if none did, that which the rules of types give. Where the JSON is the module
--- itself, none came.
-pub record WasRead (from : JsonHolder) (m : Module) (read : ModuleInfo) : Type 0 where
-  pub nested : nested_past deepest_nesting m ≡ None
-  pub came : Option ModuleInfo
-  pub known : IsInfoOf m came read
-  pub bare : from ≡ holder.Module → came ≡ None
+-- What `read_given` promises of what it read of these bytes: where they are the module itself, no info
+-- came with it. That the module is the one that the bytes tell, its contract doesn't say.
+abbrev pub IsGivenIn : (json : List ℕ) → Given → Type 0
+IsGivenIn json given = IsTrue given.is_bare → given.info ≡ None
 
--- The writer was asked under these flags for the text of m, which is the given module, or that with
--- its floats made decimal. The given one is accepted.
-pub record WasAsked (flags : ℕ) : Type 0 where
+-- This module was read of the bytes, and is nested no deeper than it may be. What is known of it is
+-- the info that came with it, or if none did, that which the rules of types give.
+pub record WasRead (json : List ℕ) (from : JsonHolder) (m : Module) (read : ModuleInfo)
+    : Type 0 where
+  pub given : Given
+  pub stands : IsGivenIn json given
+  pub holder_is : from ≡ holder_of given.is_bare
+  pub module_is : m ≡ given.module
+  pub nested : nested_past deepest_nesting m ≡ None
+  pub known : IsInfoOf m given.info read
+
+-- The writer was asked under these flags for the text of m, which is the given module, or that where
+-- names keep their digits and floats are decimal. The given one is accepted.
+pub record WasAsked (json : List ℕ) (flags : ℕ) : Type 0 where
   pub flags_are_known : flags ≤ 7
   pub writer : WriterFlags
   pub has_bits : bits_of writer ≡ flags % 4
@@ -116,28 +125,30 @@ pub record WasAsked (flags : ℕ) : Type 0 where
   pub m : Module
   pub is_as_asked : IsAsAsked (asks_decimal_floats flags) given m
   pub read : ModuleInfo
-  pub was_read : WasRead from given read
+  pub was_read : WasRead json from given read
   pub info : ModuleInfo
   pub accepted : IsTrue (is_accepted given read)
   pub counted : IsCounted m read info
 
--- The text is that of an accepted module, written as asked, and faithfully.
-pub record WasWritten (flags : ℕ) (text : List ℕ) : Type 0 where
-  pub asked : WasAsked flags
+-- The text is that of an accepted module, written as asked, and faithfully. Where decimal floats are
+-- asked for, each finite one has a numeral.
+pub record WasWritten (json : List ℕ) (flags : ℕ) (text : List ℕ) : Type 0 where
+  pub asked : WasAsked json flags
   pub faithful : FaithfulWriting asked.writer asked.m asked.info (Ok tt) [] text 0 0
   pub text_is : text ≡ printed_program (written_program asked.m asked.info asked.writer)
+  pub complete : IsTrue (asks_decimal_floats flags) → IsDecimalThroughout asked.m
   pub is_within : length text ≤ longest_text
 
--- The text of an accepted module, written as asked, would be longer than it may be.
-pub record IsTooLong (flags : ℕ) : Type 0 where
-  pub asked : WasAsked flags
-  pub longer :
-      longest_text < length (printed_program (written_program asked.m asked.info asked.writer))
+-- The text of an accepted module, written as asked, would be longer than it may be; and of one that is
+-- refused, what stands in front of what it is refused for.
+pub record IsTooLong (json : List ℕ) (flags : ℕ) : Type 0 where
+  pub asked : WasAsked json flags
+  pub past : IsPastBound asked.writer longest_text asked.m asked.info
 
 -- The writer refused an accepted module, for a listed construct that stands there and is the first,
 -- and this line tells it with its position.
-pub record IsRefused (flags : ℕ) (text : List ℕ) : Type 0 where
-  pub asked : WasAsked flags
+pub record IsRefused (json : List ℕ) (flags : ℕ) (text : List ℕ) : Type 0 where
+  pub asked : WasAsked json flags
   pub error : Error
   pub beginning : List ℕ
   pub faithful : FaithfulWriting asked.writer asked.m asked.info (Err error) [] beginning 0 0
@@ -146,77 +157,77 @@ pub record IsRefused (flags : ℕ) (text : List ℕ) : Type 0 where
   pub line : TellsRefusalAt asked.from asked.m refusal text
 
 -- A module was read of which this is nested too deep.
-pub record IsTooDeep : Type 0 where
-  pub m : Module
+pub record IsTooDeep (json : List ℕ) : Type 0 where
+  pub given : Given
+  pub stands : IsGivenIn json given
   pub nested : Nested
-  pub past : nested_past deepest_nesting m ≡ Some nested
+  pub past : nested_past deepest_nesting given.module ≡ Some nested
 
 -- A module was read that is accepted.
-pub record IsAccepted : Type 0 where
+pub record IsAccepted (json : List ℕ) : Type 0 where
   pub from : JsonHolder
   pub m : Module
   pub read : ModuleInfo
-  pub was_read : WasRead from m read
+  pub was_read : WasRead json from m read
   pub accepted : IsTrue (is_accepted m read)
 
 -- A module was read that is not accepted, for this fault, which is its first, and this line tells it.
-pub record IsNotAccepted (text : List ℕ) : Type 0 where
+pub record IsNotAccepted (json : List ℕ) (text : List ℕ) : Type 0 where
   pub from : JsonHolder
   pub m : Module
   pub read : ModuleInfo
-  pub was_read : WasRead from m read
+  pub was_read : WasRead json from m read
   pub fault : Unaccepted
   pub fails : IsFirstFault m read fault
   pub line : TellsFaultAt from m read fault text
 
 -- A module was read without an info, and this line tells its first expression that has no type by
 -- the rules. So no info that follows them is accepted.
-pub record IsUntyped (text : List ℕ) : Type 0 where
-  pub from : JsonHolder
-  pub m : Module
-  pub came : Option ModuleInfo
+pub record IsUntyped (json : List ℕ) (text : List ℕ) : Type 0 where
+  pub given : Given
+  pub stands : IsGivenIn json given
   pub untyped : Untyped
-  pub is : shaders.IsUntyped deepest_nesting m came untyped
-  pub line : TellsUntypedAt from m untyped text
+  pub is : shaders.IsUntyped deepest_nesting given.module given.info untyped
+  pub line : TellsUntypedAt (holder_of given.is_bare) given.module untyped text
 
 -- of what nests too deep: more than 127 lists and objects of the bytes are open at once, or the
 -- module that they hold is nested too deep
 abbrev pub TellsOfDepth : (json : List ℕ) → Type 0
-TellsOfDepth json = IsTrue (nest_too_deep json) ⊎ IsTooDeep
+TellsOfDepth json = IsTrue (nest_too_deep json) ⊎ IsTooDeep json
 
 -- of what is not asked for more: no module stands in the bytes, they nest too deep, its types are
 -- not known, or memory was refused, and then there is no text
 abbrev pub TellsOfReading : (json : List ℕ) → Status → (text : List ℕ) → Type 0
 TellsOfReading json status.NoModule text = ⊤
 TellsOfReading json status.TooDeep text = TellsOfDepth json
-TellsOfReading json status.NotAccepted text = IsUntyped text
+TellsOfReading json status.NotAccepted text = IsUntyped json text
 TellsOfReading json status.OutOfMemory text = text ≡ []
 TellsOfReading json _ text = ⊥
 
 -- of a module that is not accepted
-abbrev pub TellsOfFault : (text : List ℕ) → Type 0
-TellsOfFault text = IsNotAccepted text ⊎ IsUntyped text
+abbrev pub TellsOfFault : (json text : List ℕ) → Type 0
+TellsOfFault json text = IsNotAccepted json text ⊎ IsUntyped json text
 
 -- of a module that is to be written
 abbrev pub TellsOfWriting : (json : List ℕ) (flags : ℕ) → Status → (text : List ℕ) → Type 0
-TellsOfWriting json flags status.Done text = WasWritten flags text
-TellsOfWriting json flags status.Refused text = IsRefused flags text
-TellsOfWriting json flags status.TooLong text = IsTooLong flags
-TellsOfWriting json flags status.NotAccepted text = TellsOfFault text
+TellsOfWriting json flags status.Done text = WasWritten json flags text
+TellsOfWriting json flags status.Refused text = IsRefused json flags text
+TellsOfWriting json flags status.TooLong text = IsTooLong json flags
+TellsOfWriting json flags status.NotAccepted text = TellsOfFault json text
 TellsOfWriting json flags status.UnknownFlag text = 8 ≤ flags
 TellsOfWriting json flags told text = TellsOfReading json told text
 
 -- of one that is only asked whether it is accepted: then there is no text
 abbrev pub TellsOfChecking : (json : List ℕ) → Status → (text : List ℕ) → Type 0
-TellsOfChecking json status.Done text = IsAccepted × (text ≡ [])
-TellsOfChecking json status.NotAccepted text = TellsOfFault text
+TellsOfChecking json status.Done text = IsAccepted json × (text ≡ [])
+TellsOfChecking json status.NotAccepted text = TellsOfFault json text
 TellsOfChecking json told text = TellsOfReading json told text
 
 -- of one whose layouts are asked for: it is refused where its items get no names
 abbrev pub TellsOfLayouts : (json : List ℕ) → Status → (text : List ℕ) → Type 0
-TellsOfLayouts json status.Done text = IsAccepted
-TellsOfLayouts json status.Refused text = IsAccepted
-TellsOfLayouts json status.NotAccepted text = TellsOfFault text
+TellsOfLayouts json status.Done text = IsAccepted json
+TellsOfLayouts json status.Refused text = IsAccepted json
+TellsOfLayouts json status.NotAccepted text = TellsOfFault json text
 TellsOfLayouts json told text = TellsOfReading json told text
 
 -- ---- steps on the way

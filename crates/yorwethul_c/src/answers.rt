@@ -1,9 +1,12 @@
 //! What becomes of a module, as a status and a text.
 
-ghost use Rattle.std.specs.Prelude.{◌≡◌, ◌<◌, ◌≤◌, ◌%◌, ℕ, IfErr, IfOk, IsTrue, List, None};
+ghost use Rattle.std.specs.Prelude.{◌≡◌, ◌<◌, ◌≤◌, ◌%◌, ℕ, IfErr, IfOk, List, None};
 ghost use Rattle.std.specs.Prelude.{string_bytes};
 ghost use Rattle.naga_back.specs.Flags.{bits_of};
 ghost use Rattle.module_positions.specs.Faults.{TellsFaultAt};
+ghost use Rattle.module_answers.specs.Shaders.{IsInfoOf, holder_of};
+ghost use Rattle.module_limits.specs.Nesting.{nested_past};
+ghost use Rattle.yorwethul_c.specs.Answers.{IsGivenIn, deepest_nesting};
 ghost use Rattle.yorwethul_c.specs.Answers.{LacksMemory, Says, SaysOfError, SaysOfUnasked};
 ghost use Rattle.yorwethul_c.specs.Answers.{SaysOfUnwritten, SaysOfWritten, SaysThat};
 ghost use Rattle.yorwethul_c.specs.Answers.{TellsAnyRefusal, TellsOfChecking, TellsOfLayouts};
@@ -34,10 +37,10 @@ const LONGEST_TEXT: usize = 67_108_864;
 const DEEPEST_NESTING: usize = 4_000;
 
 /// The flag by which floats become decimal. Those below it are the writer's own.
-const DECIMAL_FLOATS: u32 = 4;
+pub(crate) const DECIMAL_FLOATS: u32 = 4;
 
 /// All flags.
-const ALL_FLAGS: u32 = 7;
+pub(crate) const ALL_FLAGS: u32 = 7;
 
 /// A status with its text: what was asked for, or why it is not there.
 #[derive(Drop)]
@@ -86,8 +89,9 @@ pub fn laid_out(alloc: Global, json: &[u8]) -> Answer
 
 /// Reads the module, and finds what is known of it where no info came with it; or tells why nothing
 /// more is asked of it.
-fn shader_in(alloc: Global, json: &[u8]) -> Result<Shader, Answer>
-    ensures read { IfOk result (λ shader. WasRead shader.holder shader.module shader.info) }
+pub(crate) fn shader_in(alloc: Global, json: &[u8]) -> Result<Shader, Answer>
+    ensures read { IfOk result
+        (λ shader. WasRead json.now shader.holder shader.module shader.info) }
     ensures unread { IfErr result
         (λ a. TellsOfReading json.now a.status (string_bytes a.text)) }
 {
@@ -102,9 +106,11 @@ fn shader_in(alloc: Global, json: &[u8]) -> Result<Shader, Answer>
 
 /// The module with what is known of it, or what is told where nothing more is asked of it.
 fn shader_of(alloc: Global, given: Given) -> Result<Shader, Answer>
-    requires bare { IsTrue given.is_bare → given.info ≡ None }
-    ensures read { IfOk result (λ shader. WasRead shader.holder shader.module shader.info) }
-    ensures unread { (json : List ℕ) → IfErr result
+    ensures its_module { IfOk result (λ shader. shader.module ≡ given.module) }
+    ensures its_holder { IfOk result (λ shader. shader.holder ≡ holder_of given.is_bare) }
+    ensures its_info { IfOk result (λ shader. IsInfoOf given.module given.info shader.info) }
+    ensures nested { IfOk result (λ _. nested_past deepest_nesting given.module ≡ None) }
+    ensures unread { (json : List ℕ) → IsGivenIn json given → IfErr result
         (λ a. TellsOfReading json a.status (string_bytes a.text)) }
 {
     let Given {
@@ -152,8 +158,9 @@ fn unread(alloc: Global, json: &[u8], error: ReadError) -> Answer
 
 fn written_shader(alloc: Global, shader: &mut Shader, flags: u32) -> Answer
     requires known { flags ≤ 7 }
-    requires read { WasRead shader.old.holder shader.old.module shader.old.info }
-    ensures { (json : List ℕ) → TellsOfWriting json flags result.status (string_bytes result.text) }
+    ensures { (json : List ℕ) →
+        WasRead json shader.old.holder shader.old.module shader.old.info →
+        TellsOfWriting json flags result.status (string_bytes result.text) }
 {
     if flags < DECIMAL_FLOATS {
         written_as_given(alloc, shader, flags)
@@ -164,8 +171,9 @@ fn written_shader(alloc: Global, shader: &mut Shader, flags: u32) -> Answer
 
 fn written_as_given(alloc: Global, shader: &mut Shader, flags: u32) -> Answer
     requires known { flags < 4 }
-    requires read { WasRead shader.old.holder shader.old.module shader.old.info }
-    ensures { (json : List ℕ) → TellsOfWriting json flags result.status (string_bytes result.text) }
+    ensures { (json : List ℕ) →
+        WasRead json shader.old.holder shader.old.module shader.old.info →
+        TellsOfWriting json flags result.status (string_bytes result.text) }
 {
     match write_within(
         alloc,
@@ -182,8 +190,9 @@ fn written_as_given(alloc: Global, shader: &mut Shader, flags: u32) -> Answer
 fn written_with_decimals(alloc: Global, shader: &mut Shader, flags: u32) -> Answer
     requires decimal { 4 ≤ flags }
     requires known { flags ≤ 7 }
-    requires read { WasRead shader.old.holder shader.old.module shader.old.info }
-    ensures { (json : List ℕ) → TellsOfWriting json flags result.status (string_bytes result.text) }
+    ensures { (json : List ℕ) →
+        WasRead json shader.old.holder shader.old.module shader.old.info →
+        TellsOfWriting json flags result.status (string_bytes result.text) }
 {
     match write_decimal_within(
         alloc,
@@ -265,8 +274,9 @@ fn not_written(alloc: Global, shader: &Shader, unwritten: NoOutcome) -> Answer
 }
 
 fn checked_shader(alloc: Global, shader: &Shader) -> Answer
-    requires read { WasRead shader.now.holder shader.now.module shader.now.info }
-    ensures { (json : List ℕ) → TellsOfChecking json result.status (string_bytes result.text) }
+    ensures { (json : List ℕ) →
+        WasRead json shader.now.holder shader.now.module shader.now.info →
+        TellsOfChecking json result.status (string_bytes result.text) }
 {
     match unaccepted(&shader.module, &shader.info) {
         Some(fault) => not_accepted(alloc, shader, fault),
@@ -278,8 +288,9 @@ fn checked_shader(alloc: Global, shader: &Shader) -> Answer
 }
 
 fn laid_out_shader(alloc: Global, shader: &Shader) -> Answer
-    requires read { WasRead shader.now.holder shader.now.module shader.now.info }
-    ensures { (json : List ℕ) → TellsOfLayouts json result.status (string_bytes result.text) }
+    ensures { (json : List ℕ) →
+        WasRead json shader.now.holder shader.now.module shader.now.info →
+        TellsOfLayouts json result.status (string_bytes result.text) }
 {
     match unaccepted(&shader.module, &shader.info) {
         Some(fault) => not_accepted(alloc, shader, fault),
@@ -295,7 +306,7 @@ fn laid_out_shader(alloc: Global, shader: &Shader) -> Answer
 }
 
 /// Tells where and why the module is not accepted, and what was expected there.
-fn not_accepted(alloc: Global, shader: &Shader, fault: Unaccepted) -> Answer
+pub(crate) fn not_accepted(alloc: Global, shader: &Shader, fault: Unaccepted) -> Answer
     ensures { SaysThat
         (TellsFaultAt shader.now.holder shader.now.module shader.now.info fault)
         Status.NotAccepted result.status (string_bytes result.text) }
@@ -305,7 +316,7 @@ fn not_accepted(alloc: Global, shader: &Shader, fault: Unaccepted) -> Answer
 }
 
 /// A status with what is told of it.
-fn told(alloc: Global, status: Status, text: impl Display + Drop) -> Answer
+pub(crate) fn told(alloc: Global, status: Status, text: impl Display + Drop) -> Answer
     ensures { Says status result.status (string_bytes result.text) }
 {
     let text = format!(in alloc; "{text}");
@@ -324,7 +335,7 @@ fn settled(alloc: Global, status: Status, text: Result<String, AllocError>) -> A
     }
 }
 
-fn out_of_memory(alloc: Global) -> Answer
+pub(crate) fn out_of_memory(alloc: Global) -> Answer
     ensures { LacksMemory result.status (string_bytes result.text) }
 {
     Answer {

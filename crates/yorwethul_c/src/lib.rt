@@ -4,14 +4,17 @@
 
 mod answers;
 mod copying;
+mod named;
 mod status;
 
 ghost use Rattle.std.specs.Prelude.{◌≡◌};
 ghost use Rattle.yorwethul_c.specs.Answers.{HandsOut, TellsOfChecking, TellsOfLayouts};
 ghost use Rattle.yorwethul_c.specs.Answers.{TellsOfWriting};
+ghost use Rattle.yorwethul_c.specs.NamedItems.{TellsOfNames};
 
 use crate::answers::{checked, laid_out, written};
 use crate::copying::hand_out;
+use crate::named::named;
 use std::alloc::Global;
 
 /// Writes the module that the JSON holds, at most `LONGEST_TEXT` bytes.
@@ -52,6 +55,21 @@ pub extern "C" fn yorwethul_layout(
     ensures { HandsOut (TellsOfLayouts json.now) result needed.new out.old out.new }
 {
     hand_out(laid_out(alloc, json), out, needed)
+}
+
+/// Tells which identifier of the text that the module has under these flags stands for which item of it, as
+/// JSON.
+#[unsafe(no_mangle)]
+pub extern "C" fn yorwethul_names(
+    alloc: Global,
+    json: &[u8],
+    flags: u32,
+    out: &mut [u8],
+    needed: &mut usize,
+) -> u32
+    ensures { HandsOut (TellsOfNames json.now flags) result needed.new out.old out.new }
+{
+    hand_out(named(alloc, json, flags), out, needed)
 }
 
 /// The version of the library: a million times the first number, a thousand times the second, and

@@ -13,6 +13,8 @@ pub enum Task {
     Check,
     /// It is told where the members of one module's structs stand.
     Layout,
+    /// It is told which identifier stands for which item of one module.
+    Names,
     /// It is shown why one module has no text.
     Explain,
     /// Many modules are answered, one a line.
@@ -27,6 +29,8 @@ pub struct Style {
     /// Whether floats are kept as the module has them, so that one that is held as its bits is
     /// refused, and the text has nothing that only standard compilers ask for.
     pub plain: bool,
+    /// Whether, where many modules are answered, their names stand beside their texts.
+    pub names: bool,
     /// How deep a module may be nested, and how long its text may be.
     pub limits: Limits,
 }
@@ -57,6 +61,7 @@ fn invocation_in<'a>(matches: &ArgMatches<'a>) -> Invocation<'a> {
         style: Style {
             explicit_types: matches.get_flag("explicit-types"),
             plain: matches.get_flag("plain"),
+            names: matches.get_flag("names"),
             limits: limits_in(matches),
         },
         module: matches.get_str("module").unwrap_or("-"),
@@ -84,6 +89,8 @@ fn task_in(matches: &ArgMatches<'_>) -> Task {
         Task::Lines
     } else if matches.get_flag("layout") {
         Task::Layout
+    } else if matches.get_flag("names") {
+        Task::Names
     } else if matches.get_flag("check") {
         Task::Check
     } else if matches.get_flag("explain") {
@@ -100,17 +107,23 @@ const AFTER_HELP: &str = "\
 The file holds a module, as serde writes naga's Module, or an object with the members module and
 info, the second as serde writes naga's ModuleInfo. Where there is no info, or it is null, the types
 of expressions are found by the module. With --lines each line is such a module or such an object,
-which may have the members explicit_types, plain, nesting, text and id beside; the first two, true
-or false, and the next two, numbers, hold in place of the options of these names. It is answered
-before the next line is read, by one line, an object with the same id and with one of the members
-text, refused, not_accepted and error.
+which may have the members explicit_types, plain, names, nesting, text and id beside; the first
+three, true or false, and the next two, numbers, hold in place of the options of these names. It is
+answered before the next line is read, by one line, an object with the same id and with one of the
+members text, refused, not_accepted and error.
 
-Literals of floats are written by the digits that Rust's formatting gives, and the text has what
-standard compilers ask for, as enable subgroups. With --plain neither is so, as by the library
-without flags: a literal of a float that the module holds as its bits is then refused.
+Literals of floats are written by the digits that Rust's formatting gives, names may end in digits,
+as pass2, and the text has what standard compilers ask for, as enable subgroups. With --plain none
+of this is so, as by the library without flags: a literal of a float that the module holds as its
+bits is then refused, and pass2 is written pass2_.
 
 With --layout each struct that the text declares has a line, and so has each of its members, with
 its offset and what WGSL gives to its type, in bytes, or why the member can't stay where it is.
+
+With --names an object of JSON tells the entry points, overrides, variables, structs, functions and
+named constants that the text declares, each by its label in the module and its identifier in the
+text; as the text has them with --plain, if that is asked for. With --lines and --names each answer
+about an accepted module has this object as its member names.
 
 With --explain the standard output has the reason why there is no text, and a numbered listing of
 the function's expressions and statements, or of the declarations, around the position of the fault.
@@ -132,6 +145,7 @@ fn command<'a>(alloc: Global) -> Result<Command<'a>, AllocError> {
         .arg(plain(alloc))?
         .arg(check(alloc)?)?
         .arg(layout(alloc)?)?
+        .arg(names(alloc)?)?
         .arg(explain(alloc)?)?
         .arg(lines(alloc)?)?
         .arg(info(alloc))?
@@ -169,11 +183,19 @@ fn layout<'a>(alloc: Global) -> Result<Arg<'a>, AllocError> {
         .conflicts_with("text")
 }
 
+fn names<'a>(alloc: Global) -> Result<Arg<'a>, AllocError> {
+    let help = "Prints which identifier of the text stands for which item of the module";
+    flag(alloc, "names", help)
+        .conflicts_with("check")?
+        .conflicts_with("layout")
+}
+
 fn explain<'a>(alloc: Global) -> Result<Arg<'a>, AllocError> {
     let help = "Shows why there is no text: what the fault is, with the lines around it";
     flag(alloc, "explain", help)
         .conflicts_with("check")?
-        .conflicts_with("layout")
+        .conflicts_with("layout")?
+        .conflicts_with("names")
 }
 
 fn lines<'a>(alloc: Global) -> Result<Arg<'a>, AllocError> {

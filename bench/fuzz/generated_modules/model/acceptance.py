@@ -54,11 +54,12 @@ def declared_in(module):
 
 
 def declarations_fit(module):
-    """Types and initialisers are there, and so are the variables of entry points."""
+    """Types and initialisers are there, and so are the variables and overrides of entry points."""
     return (
         all(item.place < len(module.types) for item in declared_in(module))
         and all(item.init is None or item.init < len(module.own.expressions) for item in declared_in(module))
-        and all(number < len(module.variables) for p in module.entry_points for number in p.variables()))
+        and all(number < len(module.variables) for p in module.entry_points for number in p.variables())
+        and all(number < len(module.overrides) for p in module.entry_points for number in p.overrides()))
 
 
 def initialiser_stands_before(module, h, e):

@@ -3,8 +3,8 @@
 import json
 import subprocess
 
-# whether a text is plain, without what only standard compilers ask for and with floats as they are; and whether its
-# `let`s tell types
+# whether a text is plain, without what only standard compilers ask for, with floats as they are and with names that end
+# in no digit; and whether its `let`s tell types
 STYLES = [(is_plain, explicit) for is_plain in (True, False) for explicit in (False, True)]
 
 

@@ -14,7 +14,8 @@ LABELS = [
     "x", "x", "x", "a", "f", "y", "x1", "x_1", "a_1", "f1", "_e5", "_e", "_e0", "e", "fn", "let", "type", "type_1",
     "vec3", "min", "textureLoad", "i32", "__x", "_naga", "_naga_a", "a:b<c>", "", "_", "9_", "é", "1x", "²y", "x²",
     "\u0663k", "a b", "param", "local", "function", "function_1", "self", "Self", "unnamed", "gen_", "gen__naga",
-    "coop_mat8x8", "rgba8unorm", "read", "x_", "_x", "x__1", "ß,x", "😀", "x_plane0", "x_params", "param_plane2"]
+    "coop_mat8x8", "rgba8unorm", "read", "x_", "_x", "x__1", "ß,x", "😀", "x_plane0", "x_params", "param_plane2",
+    "pass2", "x_02", "x_e5", "_e05"]
 # those that what is declared gets where it has none, and what is put together of these
 DECLARED_LABELS = [
     "VertexOutput", "FragmentOutput", "ComputeOutput", "VertexOutput_1", "const_type", "const_i32", "override_type",

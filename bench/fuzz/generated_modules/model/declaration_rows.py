@@ -196,6 +196,24 @@ def lengths():
     return whole([array], overrides=[Override("M", INT), Override("N", WHOLE, None, 0)], functions=[f])
 
 
+def settings():
+    """Each stage with workgroups, whose size overrides set along some axes, and one without them."""
+    parts = [
+        ("Compute", {"size": (64, 2, 3), "settings": (1, None, 0)}), ("Mesh", {"mesh": 0, "settings": (None, 1, None)}),
+        ("Task", {"task": 0, "settings": (None, None, 1)}), ("Fragment", {"settings": (0, 0, 0)})]
+    return whole(
+        own=[named("override", INT, 0), named("override", WHOLE, 1)],
+        overrides=[Override("M", INT), Override("N", WHOLE, None, 0)], variables=[variable("p", INT, PRIVATE)],
+        functions=[point(stage, label=f"f{number}x", **more) for number, (stage, more) in enumerate(parts)])
+
+
+SETTINGS_TEXT = (
+    "enable wgpu_mesh_shader;\n\noverride M: i32;\n@id(0) override N: u32;\n\nvar<private> p: i32;\n\n"
+    + "\n".join(f"{line}\nfn f{number}x() {{\n}}\n" for number, line in enumerate([
+        "@compute @workgroup_size(N, 2, M) ", "@mesh(p) @workgroup_size(1, N, 1) ",
+        "@task @payload(p) @workgroup_size(1, 1, N) ", "@fragment "])))
+
+
 def stages():
     """Two variables, and each stage that wants one of them or may have it."""
     parts = [
@@ -336,6 +354,7 @@ TEXTS = [
     (whole(own=[literal(7)], constants=[Constant("N", INT, 0)]), "const N: i32 = 7i;\n\n"),
     (whole(functions=[point("Fragment", ("i", WHOLE, location(0, "Flat")))]),
      "@fragment \nfn main(@location(0) @interpolate(flat) i: u32) {\n}\n"),
+    (settings(), SETTINGS_TEXT),
     (counted(), "var<workgroup> c: atomic<u32>;\n\n@compute @workgroup_size(1, 1, 1) \nfn main() {\n"
      "    let _e2[: u32] = atomicAdd((&c), 1u);\n}\n"),
     (short(), "enable wgpu_int16;\n\nfn f() -> u16 {\n    return u16(5);\n}\n\n"),
@@ -668,6 +687,10 @@ OTHERS = [
     (called(), "var<private> g_2", "@volatile var<private> g_2", False),
     (counted(), "atomicAdd((&c)", "atomicSub((&c)", False),
     (counted(), "workgroup_size(1, 1, 1)", "workgroup_size(1, 1, 2)", False),
+    (settings(), "workgroup_size(N, 2, M)", "workgroup_size(M, 2, N)", False),
+    (settings(), "workgroup_size(N, 2, M)", "workgroup_size(64, 2, M)", False),
+    (settings(), "workgroup_size(N, 2, M)", "workgroup_size(N, 2, 3)", False),
+    (settings(), "workgroup_size(1, N, 1)", "workgroup_size(N, 1, 1)", False),
     (vertex(), "@vertex", "@fragment", False),
     (vertex(), "@builtin(position) pos", "@builtin(position) @invariant pos", False),
     (vertex(), "return VertexOutput()", "return vec4<f32>()", False),

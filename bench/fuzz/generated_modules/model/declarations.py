@@ -167,6 +167,7 @@ class EntryPointMaker(FunctionMaker):
         super().__init__(r, module, types, EntryPoint(name, self.stage, module, size))
         self.f.inner_label = self.label(name)
         self.give_variables()
+        self.give_settings()
         self.wanted = self.some_output()
 
     def give_variables(self):
@@ -177,6 +178,13 @@ class EntryPointMaker(FunctionMaker):
             share = 0.995 if part in wanted else 0.4 if (self.stage, part) == ("Mesh", "task") else 0.04
             if self.chance(share):
                 setattr(f, part, self.some_variable(part))
+
+    def give_settings(self):
+        """Now and then overrides that set the size of workgroups, where the module has some."""
+        overrides = self.module.overrides
+        for axis in range(3):
+            if overrides and self.chance(0.25):
+                self.f.settings[axis] = self.r.randrange(len(overrides))
 
     def some_variable(self, part):
         """A variable, most often in the space that is meant; one is made where there is none."""

@@ -3,7 +3,7 @@
 from chance import some_label, some_number, some_type
 from declarations import EntryPointMaker, FaultMaker, OwnMaker
 from functions import FunctionMaker
-from modules import Module
+from modules import Expression, Module
 from spelling import BOOL, F32, FUNCTION, I32, U32, pointer_to
 from structs import StructMaker
 
@@ -38,7 +38,22 @@ def generate(r):
         if f.result is None:
             # a result was wanted, and nothing of its type is returned
             f.bindings.pop("result", None)
+    name_settings(module)
     return module
+
+
+def name_settings(module):
+    """One of the module's own expressions is each override that sets a workgroup's size: naga's form has it there."""
+    there = {e.what[0] for e in module.own.expressions if e.kind == "override"}
+    for number in sorted({number for p in module.entry_points for number in p.overrides()} - there):
+        place = module.overrides[number].place
+        if place < len(module.types):
+            named = Expression("override", module.types[place], [number])
+            named.by_handle = named.type[0] == "struct"
+            module.own.add(named)
+        else:
+            for p in module.entry_points:
+                p.settings = [None if each == number else each for each in p.settings]
 
 
 def generate_structs(r):

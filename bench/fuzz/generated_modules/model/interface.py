@@ -27,7 +27,7 @@ def told(names, ty):
 
 def struct(module, layouts, names, h):
     ty = module.types[h]
-    members = zip(layouts.sizes(ty), member_names([label for label, _ in ty[1]]), ty[1])
+    members = zip(layouts.sizes(ty), member_names([label for label, _ in ty[1]], module.keeps_digits), ty[1])
     return names.types[h], [
         (size, meant(module.bindings.get((ty, number))), name, told(names, member))
         for number, (size, name, (_, member)) in enumerate(members)]
@@ -72,7 +72,7 @@ def function(f, names, number):
 
 def stage(p, names):
     """The stage, with what a text tells of it."""
-    sizes = p.size if p.stage in ("Compute", "Task", "Mesh") else None
+    sizes = p.sizes(names) if p.stage in ("Compute", "Task", "Mesh") else None
     mesh, task, ray = (None if number is None else names.variables[number] for number in (p.mesh, p.task, p.ray))
     return (
         p.stage, sizes, mesh if p.stage == "Mesh" else None, task if p.stage in ("Task", "Mesh") else None,
@@ -154,6 +154,6 @@ def text_stage(attributes):
     (word, *mesh), *rest = attributes
     said = {word: over for word, *over in rest}
     assert len(said) == len(rest), attributes
-    sizes = list(map(int, said["workgroup_size"])) if "workgroup_size" in said else None
+    sizes = [int(part) if part.isdigit() else part for part in said.get("workgroup_size", [])] or None
     task, ray = (said[word][0] if word in said else None for word in ("payload", "incoming_payload"))
     return STAGES[word], sizes, mesh[0] if mesh else None, task, ray

@@ -116,17 +116,27 @@ class Function:
 
 
 class EntryPoint(Function):
-    """A function of a stage, with the size of its workgroups and the numbers of the variables that it has beside: a
-    mesh's output, and the payloads of a task and of a ray, each if there is one. Its name is never absent, and the
-    label that it has as a function counts for nothing."""
+    """A function of a stage, with the size of its workgroups, the numbers of the overrides that set it along each axis
+    that has one, and the numbers of the variables that it has beside: a mesh's output, and the payloads of a task and
+    of a ray, each if there is one. Its name is never absent, and the label that it has as a function counts for
+    nothing."""
 
-    def __init__(self, name, stage, module=None, size=(1, 1, 1), mesh=None, task=None, ray=None):
+    def __init__(self, name, stage, module=None, size=(1, 1, 1), mesh=None, task=None, ray=None, settings=(None,) * 3):
         super().__init__(name, module)
         self.stage, self.size, self.mesh, self.task, self.ray = stage, list(size), mesh, task, ray
+        self.settings = list(settings)
         self.inner_label = None
 
     def variables(self):
         return [number for number in (self.mesh, self.task, self.ray) if number is not None]
+
+    def overrides(self):
+        return [number for number in self.settings if number is not None]
+
+    def sizes(self, names):
+        """The size along each axis: a number, or the name of the override that sets it."""
+        return [
+            size if number is None else names.overrides[number] for size, number in zip(self.size, self.settings)]
 
 
 class Constant:
@@ -156,8 +166,8 @@ class Variable(Constant):
 class Module:
     """Types with their labels; the special ones, each with what gives it, its size and its scalar, or none where its
     handle is nowhere; what members are bound to, by their struct and number; where members stand, and how long their
-    struct is, by their struct; constants, overrides and variables; functions and entry points; and the module's own
-    expressions, which stand together as those of a function do.
+    struct is, by their struct; constants, overrides and variables; functions and entry points; the module's own
+    expressions, which stand together as those of a function do; and whether names keep the digits of their labels.
 
     A type may stand there again, under another label: most of a module names the first one."""
 
@@ -166,6 +176,7 @@ class Module:
         self.special, self.bindings, self.placements = [], {}, {}
         self.own, self.constants, self.overrides, self.variables = Function(None, self), [], [], []
         self.functions, self.entry_points = [], []
+        self.keeps_digits = False
 
     def bodies(self):
         """Functions, and after them entry points."""

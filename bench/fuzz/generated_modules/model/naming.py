@@ -36,9 +36,18 @@ def base_of(label):
     return "gen_" + base if base.startswith(PREFIXES) else base
 
 
+# digits that a name has which is told apart, or which nobody gave
+NUMBER = re.compile("(_|^_e)[0-9]+$")
+
+
+def has_bad_end(base, keeps_digits):
+    """Whether the base ends in digits that a name may not end in."""
+    return base[-1].isdigit() and not (keeps_digits and NUMBER.search(base) is None)
+
+
 class Namer:
-    def __init__(self, words=KEYWORDS):
-        self.words, self.times = words, {}
+    def __init__(self, words, keeps_digits):
+        self.words, self.keeps_digits, self.times = words, keeps_digits, {}
 
     def name(self, label):
         """A base that comes again gets `_` and how often it came before."""
@@ -47,7 +56,7 @@ class Namer:
         self.times[base] = count + 1
         if count:
             return f"{base}_{count}"
-        return base + "_" if base[-1].isdigit() or base in self.words else base
+        return base + "_" if has_bad_end(base, self.keeps_digits) or base in self.words else base
 
     def name_or(self, label, fallback):
         return self.name(fallback if label is None else label)
@@ -78,7 +87,7 @@ class Names:
     """The names of a module's items, in the order in which they are given, and the namer as it is after them."""
 
     def __init__(self, module):
-        self.namer = namer = Namer()
+        self.namer = namer = Namer(KEYWORDS, module.keeps_digits)
         outputs = output_labels(module)
         self.types = [namer.name_or(label, outputs.get(h, "type")) for h, label in enumerate(module.labels)]
         entry_points = [FunctionNames(namer, p.label, p, False) for p in module.entry_points]
@@ -113,7 +122,7 @@ def output_labels(module):
     return outputs
 
 
-def member_names(labels):
+def member_names(labels, keeps_digits):
     """The names of a struct's members, which are told apart from one another and from reserved words alone."""
-    namer = Namer(RESERVED)
+    namer = Namer(RESERVED, keeps_digits)
     return [namer.name_or(label, "member") for label in labels]

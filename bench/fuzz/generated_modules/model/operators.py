@@ -89,12 +89,12 @@ def conversion_word(ty, what):
     return word if what[1] or ty[0] == "matrix" else f"bitcast<{word}>"
 
 
-def part_word(base, index):
+def part_word(base, index, keeps_digits):
     """A component of a vector, or of what a pointer to a vector points at, has a letter, and a member so its name; any
     other part a number."""
     whole = whole_of(base) if base[0] == "pointer" else base
     if whole[0] == "struct":
-        return "." + member_names([label for label, _ in whole[1]])[index]
+        return "." + member_names([label for label, _ in whole[1]], keeps_digits)[index]
     return "." + "xyzw"[index] if whole[0] == "vector" else f"[{index}]"
 
 
@@ -129,7 +129,7 @@ def word_of(f, e):
     if e.kind == "access":
         return "[_]"
     if e.kind == "access index":
-        return part_word(f.type_of(e.operands[0]), e.what[0])
+        return part_word(f.type_of(e.operands[0]), e.what[0], f.module.keeps_digits)
     if e.kind == "conversion":
         return conversion_word(f.type_of(e.operands[0]), e.what)
     if e.kind == "derivative":

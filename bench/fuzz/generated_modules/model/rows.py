@@ -9,6 +9,7 @@ from refusals import UNDECLARED, refusal
 from runs import module_runs, text_runs
 from spelling import BOOL, F16, F32, F64, FUNCTION, I32, SCALAR_KINDS, U16, pointer_to
 from texts import answers_of
+from words import KEYWORDS
 from words import MATH
 from worlds import term
 
@@ -27,6 +28,12 @@ LABELS = [
     (["\u0663k", "\u2167v", "v\u2167", "é9"], ["k", "v", "v_u2167_", "u00e9_9_"]),
     (["Self", "self", "self"], ["Self_", "self_", "self_1"]),
     (["x_1", "x", "x"], ["x_1_", "x", "x_1"])]
+
+# where names keep the digits that their labels end in
+LABELS_WITH_DIGITS = [
+    (["pass2", "pass2", "pass2_1", "pass_2"], ["pass2", "pass2_1", "pass2_1_", "pass_2_"]),
+    (["_e5", "_e05", "x_e5", "_ee5", "e5"], ["_e5_", "_e05_", "x_e5", "_ee5", "e5"]),
+    (["vec2", "vec5", "é9", "x_02", "x_2y3"], ["vec2_", "vec5", "u00e9_9_", "x_02_", "x_2y3"])]
 
 MEMBERS = [
     (["fract", "whole", "exp", "old_value", "exchanged"], ["fract", "whole", "exp", "old_value", "exchanged"]),
@@ -273,7 +280,8 @@ def module_of(functions, special=()):
 
 def check_structs():
     for labels, names in MEMBERS:
-        assert member_names(labels) == names, labels
+        assert member_names(labels, False) == names, labels
+    assert member_names(["vec2", "x2", "x2", "x_2"], True) == ["vec2", "x2", "x2_1", "x_2_"]
     for f, told in SPLIT:
         struct = [ty for ty in module_of([f]).types if ty[0] == "struct"]
         for explicit in (False, True):
@@ -340,9 +348,10 @@ TEXTS = [
 
 
 def check_rows():
-    for labels, names in LABELS:
-        namer = Namer()
-        assert [namer.name(label) for label in labels] == names, labels
+    for keeps_digits, rows in ((False, LABELS), (True, LABELS_WITH_DIGITS)):
+        for labels, names in rows:
+            namer = Namer(KEYWORDS, keeps_digits)
+            assert [namer.name(label) for label in labels] == names, labels
     for functions, text in TEXTS:
         module = module_of(functions)
         assert is_accepted(module) and answers_of(module, False) == (True, {text}), (answers_of(module, False), text)

@@ -165,9 +165,17 @@ class Serde:
 
     def entry_point(self, p):
         return {
-            "name": p.label, "stage": p.stage, "workgroup_size": p.size, "function": self.function(p, p.inner_label),
+            "name": p.label, "stage": p.stage, "workgroup_size": p.size,
+            "workgroup_size_overrides": [self.setting(number) for number in p.settings],
+            "function": self.function(p, p.inner_label),
             "mesh_info": None if p.mesh is None else {"output_variable": p.mesh}, "task_payload": p.task,
             "incoming_ray_payload": p.ray}
+
+    def setting(self, number):
+        """The module's own expression that is the override of this number, if one is to be."""
+        own = self.module.own.expressions
+        return None if number is None else next(
+            h for h, e in enumerate(own) if e.kind == "override" and e.what[0] == number)
 
     def expression(self, e):
         if e.kind == "literal":

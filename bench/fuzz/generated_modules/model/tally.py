@@ -214,6 +214,9 @@ class Tally:
             self.add("EntryPoint with a mesh and a payload", p.stage == "Mesh" and p.task is not None)
             tells = p.stage not in ("Vertex", "Fragment", "Compute", "RayGeneration")
             self.add("EntryPoint with variables that no text tells", p.variables() != [] and not tells)
+            has_sizes = p.stage in ("Compute", "Mesh", "Task")
+            self.add("EntryPoint with a size that an override sets", p.overrides() != [] and has_sizes)
+            self.add("EntryPoint with an override that no text tells", p.overrides() != [] and not has_sizes)
             self.add("EntryPoint that calls", any(s.kind == "call" for s in statements_in(p.body)))
             self.add("EntryPoint with locals", p.locals != [])
             if p.result is not None:

@@ -48,7 +48,7 @@ def declarations_text(module, names):
 
 def struct_text(module, layouts, names, h):
     ty = module.types[h]
-    members = zip(layouts.sizes(ty), member_names([label for label, _ in ty[1]]), ty[1])
+    members = zip(layouts.sizes(ty), member_names([label for label, _ in ty[1]], module.keeps_digits), ty[1])
     lines = [
         f"    {size_text(size)}{attributes(module.bindings.get((ty, number)))}{name}: {spelled(member)},\n"
         for number, (size, name, (_, member)) in enumerate(members)]
@@ -90,7 +90,7 @@ def space_text(word, access):
 
 def stage_text(p, names):
     """The attributes of a stage, in a line."""
-    sizes = "@workgroup_size({}, {}, {}) ".format(*p.size)
+    sizes = "@workgroup_size({}, {}, {}) ".format(*p.sizes(names))
     mesh, task, ray = (None if number is None else names.variables[number] for number in (p.mesh, p.task, p.ray))
     payload = f"@payload({task}) " if task is not None else ""
     incoming = f"@incoming_payload({ray}) "

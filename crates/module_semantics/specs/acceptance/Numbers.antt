@@ -2,8 +2,8 @@
 -- holds them. Literals have theirs in Literals. What is a handle, a count, a width or a set of
 -- flags is asked about where it is used.
 --
--- Throughout, n is a number, f a function, and k a member of a struct.
-use Rattle.std.specs.Prelude.{ℕ, Bool, true, ◌&&◌, ◌==◌, List, length, ◌^◌, nat_lt}
+-- Throughout, n is a number, f a function, p an entry point, and k a member of a struct.
+use Rattle.std.specs.Prelude.{ℕ, Bool, true, ◌&&◌, ◌==◌, List, Option, length, ◌^◌, nat_lt}
 use Rattle.std.specs.Int.NonZero.{non_zero_u32_get}
 use Rattle.std.specs.List.{list_all}
 use Rattle.std.specs.Option.{option_map_or}
@@ -11,6 +11,7 @@ use Rattle.naga_ir.specs.declared.binding.Binding.{Binding}
 use Rattle.naga_ir.specs.declared.binding.Binding.TheVariants as binding
 use Rattle.naga_ir.specs.declared.binding.ResourceBinding.{ResourceBinding}
 use Rattle.naga_ir.specs.declared.expression.SwizzleComponent.{SwizzleComponent}
+use Rattle.naga_ir.specs.declared.module.EntryPoint.{EntryPoint}
 use Rattle.naga_ir.specs.declared.module.Function.{Function}
 use Rattle.naga_ir.specs.declared.statement.SwitchValue.{SwitchValue}
 use Rattle.naga_ir.specs.declared.statement.SwitchValue.TheVariants as switch_value
@@ -94,6 +95,10 @@ type_fits_32_bits (inner.BindingArray base size) = size_fits_32_bits size
 
 -- ---- entry points
 
--- a workgroup has a size along each of three axes, of 32 bits
-abbrev pub workgroup_fits_32_bits : (sizes : List ℕ) → Bool
-workgroup_fits_32_bits sizes = length sizes == 3 && list_all fits_32_bits sizes
+-- a workgroup has a size along each of three axes, of 32 bits, and for each an override or none
+abbrev pub sizes_fit_32_bits : (sizes : List ℕ) → (overrides : List (Option ℕ)) → Bool
+sizes_fit_32_bits sizes overrides =
+    length sizes == 3 && (length overrides == 3 && list_all fits_32_bits sizes)
+
+abbrev pub workgroup_fits_32_bits : EntryPoint → Bool
+workgroup_fits_32_bits p = sizes_fit_32_bits p.workgroup_size p.workgroup_size_overrides

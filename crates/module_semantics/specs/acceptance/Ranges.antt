@@ -40,6 +40,7 @@ use Rattle.naga_info.specs.declared.info.TypeResolution.TheVariants.{Handle, Val
 use Rattle.naga_spelling.specs.Spelling.{length_within}
 use Rattle.module_semantics.specs.acceptance.InfoSizes.{all_known, resolution_is_fit, sizes_fit}
 use Rattle.module_semantics.specs.acceptance.InfoSizes.{type_is_fit}
+use Rattle.module_semantics.specs.acceptance.NamedItems.{is_there, named_item}
 use Rattle.module_semantics.specs.Literals.{literal_is_within}
 use Rattle.module_semantics.specs.acceptance.Numbers.{fits_16_bits, fits_32_bits}
 use Rattle.module_semantics.specs.acceptance.Numbers.{case_value_fits_32_bits}
@@ -132,32 +133,18 @@ local_in_range types expressions l = nat_lt l.ty types && is_below expressions l
 
 -- ---- expressions
 
--- what an expression names beside its operands is there; a literal has a value of its type, an
--- index that is known has 32 bits, and a pattern four letters
+-- a literal has a value of its type, an index that is known 32 bits, and a pattern four letters
+abbrev pub own_numbers_fit : Expression → Bool
+own_numbers_fit (expression.Literal value) = literal_is_within value
+own_numbers_fit (expression.AccessIndex base index) = fits_32_bits index
+own_numbers_fit (expression.Swizzle size vector pattern) = pattern_is_whole pattern
+own_numbers_fit _ = true
+
+-- what an expression names beside its operands is there; one that names nothing has its own numbers
+-- of their types
 abbrev pub names_in_range : Module → (arguments locals : ℕ) → Expression → Bool
-names_in_range m arguments locals (expression.Literal value) = literal_is_within value
-names_in_range m arguments locals (expression.Constant h) = nat_lt h (length m.constants)
-names_in_range m arguments locals (expression.Override h) = nat_lt h (length m.overrides)
-names_in_range m arguments locals (expression.ZeroValue ty) = nat_lt ty (length m.types)
-names_in_range m arguments locals (expression.Compose ty components) =
-    nat_lt ty (length m.types)
-names_in_range m arguments locals (expression.AccessIndex base index) = fits_32_bits index
-names_in_range m arguments locals (expression.Swizzle size vector pattern) =
-    pattern_is_whole pattern
-names_in_range m arguments locals (expression.FunctionArgument number) =
-    nat_lt number arguments
-names_in_range m arguments locals (expression.GlobalVariable h) =
-    nat_lt h (length m.global_variables)
-names_in_range m arguments locals (expression.LocalVariable h) = nat_lt h locals
-names_in_range m arguments locals (expression.CallResult function) =
-    nat_lt function (length m.functions)
-names_in_range m arguments locals (expression.AtomicResult ty comparison) =
-    nat_lt ty (length m.types)
-names_in_range m arguments locals (expression.WorkGroupUniformLoadResult ty) =
-    nat_lt ty (length m.types)
-names_in_range m arguments locals (expression.SubgroupOperationResult ty) =
-    nat_lt ty (length m.types)
-names_in_range m arguments locals _ = true
+names_in_range m arguments locals e =
+    option_map_or (is_there m arguments locals) (named_item e) (own_numbers_fit e)
 
 -- the operands of the expression with this handle stand before it, and what it names is there
 abbrev pub expression_in_range : Module → (arguments locals : ℕ) → (here : ℕ) → Expression → Bool
@@ -250,15 +237,20 @@ function_in_range m callees f =
     (list_all (local_in_range (length m.types) (length f.expressions)) f.local_variables &&
     (expressions_in_range m f && block_in_range callees (length f.expressions) f.body)))
 
+-- The overrides that set a workgroup's size lie in the overrides. Nothing is asked of their types,
+-- nor of a stage that has no workgroups.
+abbrev pub size_overrides_fit : Module → EntryPoint → Bool
+size_overrides_fit m p = list_all (is_below (length m.overrides)) p.workgroup_size_overrides
+
 -- an entry point may call each function; the variables that it names beside lie in the globals, and
--- its workgroup's sizes have 32 bits
+-- what sets its workgroup's size in the overrides; and the sizes have 32 bits
 abbrev pub entry_point_in_range : Module → EntryPoint → Bool
 entry_point_in_range m p =
     is_below (length m.global_variables) (option_map (λ k. k.output_variable) p.mesh_info) &&
     (is_below (length m.global_variables) p.task_payload &&
     (is_below (length m.global_variables) p.incoming_ray_payload &&
-    (workgroup_fits_32_bits p.workgroup_size &&
-    function_in_range m (length m.functions) p.function)))
+    (size_overrides_fit m p && (workgroup_fits_32_bits p &&
+    function_in_range m (length m.functions) p.function))))
 
 -- ---- modules
 

@@ -5,14 +5,16 @@ ghost use Rattle.std.specs.List.{enumerate_from};
 ghost use Rattle.naga_ir.specs.Operands.{expression_operands};
 ghost use Rattle.module_semantics.specs.Literals.{literal_is_within};
 ghost use Rattle.naga_acceptance.specs.FirstFaults.{expression_range_fault};
-ghost use Rattle.naga_acceptance.specs.FirstFaults.{global_expression_range_fault, names_fault};
+ghost use Rattle.naga_acceptance.specs.FirstFaults.{global_expression_range_fault};
 ghost use Rattle.naga_acceptance.specs.Searching.{first_faulty};
 ghost use Rattle.module_semantics.specs.acceptance.Ranges.{all_below};
-ghost use Rattle.module_semantics.specs.acceptance.Ranges.{initialiser_before, names_in_range};
+ghost use Rattle.module_semantics.specs.acceptance.Ranges.{initialiser_before, own_numbers_fit};
+ghost use Rattle.module_semantics.specs.acceptance.NamedItems.{names_there};
 
 use crate::faults::Fault;
 use crate::ranges::is_below;
 use crate::ranges::numbers::{fits_32_bits, pattern_is_whole};
+use module_semantics::named::{count_of, named_item};
 use naga_ir::{Expression, Function, Handle, Literal, Module};
 
 /// Whether the expression's operands are among the first `expressions`.
@@ -51,24 +53,11 @@ pub(crate) fn literal_is_within(literal: Literal) -> bool
     }
 }
 
-/// Whether what an expression names beside its operands is there, in a function that has so many
-/// arguments and locals; and a literal has a value of its type, an index 32 bits, and a pattern
-/// four letters.
-fn names_in_range(module: &Module, arguments: usize, locals: usize, expression: &Expression) -> bool
-    ensures { result ≡ names_in_range «module».now arguments locals expression.now }
+/// Whether a literal has a value of its type, an index 32 bits, and a pattern four letters.
+fn own_numbers_fit(expression: &Expression) -> bool
+    ensures { result ≡ own_numbers_fit expression.now }
 {
     match expression {
-        Expression::Constant(handle) => handle.index() < module.constants.len(),
-        Expression::Override(handle) => handle.index() < module.overrides.len(),
-        Expression::ZeroValue(ty)
-        | Expression::Compose { ty, .. }
-        | Expression::AtomicResult { ty, .. }
-        | Expression::WorkGroupUniformLoadResult { ty }
-        | Expression::SubgroupOperationResult { ty } => ty.index() < module.types.len(),
-        Expression::FunctionArgument(number) => (*number as usize) < arguments,
-        Expression::GlobalVariable(handle) => handle.index() < module.global_variables.len(),
-        Expression::LocalVariable(handle) => handle.index() < locals,
-        Expression::CallResult(function) => function.index() < module.functions.len(),
         Expression::Literal(literal) => literal_is_within(*literal),
         Expression::AccessIndex { index, .. } => fits_32_bits(*index),
         Expression::Swizzle { pattern, .. } => pattern_is_whole(*pattern),
@@ -76,19 +65,19 @@ fn names_in_range(module: &Module, arguments: usize, locals: usize, expression: 
     }
 }
 
-/// The fault of an expression that names what is not there. A literal names nothing, but its
-/// numeral may be out of range.
-fn names_fault(expression: &Expression) -> Fault
-    ensures { result ≡ names_fault expression.now }
+/// Whether what an expression names beside its operands is there, in a function that has so many
+/// arguments and locals.
+fn names_there(module: &Module, arguments: usize, locals: usize, expression: &Expression) -> bool
+    ensures { result ≡ names_there «module».now arguments locals expression.now }
 {
-    match expression {
-        Expression::Literal(_) => Fault::Numeral,
-        _ => Fault::Names,
+    match named_item(expression) {
+        Some((list, index)) => index < count_of(module, arguments, locals, list),
+        None => true,
     }
 }
 
-/// Whether an operand of the expression with this handle does not stand before it, or else what it
-/// names is not there.
+/// Whether an operand of the expression with this handle does not stand before it, or else one of
+/// its own numbers is out of range, or what it names is not there.
 fn expression_range_fault(
     module: &Module,
     arguments: usize,
@@ -102,8 +91,11 @@ fn expression_range_fault(
     if !operands_before(here.index(), expression) {
         return Some(Fault::Operands);
     }
-    if !names_in_range(module, arguments, locals, expression) {
-        return Some(names_fault(expression));
+    if !own_numbers_fit(expression) {
+        return Some(Fault::Numeral);
+    }
+    if !names_there(module, arguments, locals, expression) {
+        return Some(Fault::Names);
     }
     None
 }

@@ -13,11 +13,11 @@ ghost use Rattle.module_semantics.specs.acceptance.Numbers.{pattern_is_whole, re
 ghost use Rattle.module_semantics.specs.acceptance.Numbers.{signature_fits_32_bits};
 ghost use Rattle.module_semantics.specs.acceptance.Numbers.{size_fits_32_bits};
 ghost use Rattle.module_semantics.specs.acceptance.Numbers.{type_fits_32_bits};
-ghost use Rattle.module_semantics.specs.acceptance.Numbers.{workgroup_fits_32_bits};
+ghost use Rattle.module_semantics.specs.acceptance.Numbers.{sizes_fit_32_bits};
 
 use naga_ir::{
-    ArraySize, Binding, Function, FunctionArgument, FunctionResult, ResourceBinding, StructMember,
-    SwitchCase, SwitchValue, SwizzleComponent, TypeInner,
+    ArraySize, Binding, Function, FunctionArgument, FunctionResult, Handle, Override,
+    ResourceBinding, StructMember, SwitchCase, SwitchValue, SwizzleComponent, TypeInner,
 };
 
 fn fits_16_bits(_number: u16) -> bool
@@ -180,9 +180,12 @@ pub(crate) fn type_fits_32_bits(inner: &TypeInner) -> bool
     }
 }
 
-/// Whether a workgroup has three sizes, of 32 bits each.
-pub(crate) fn workgroup_fits_32_bits(sizes: [u32; 3]) -> bool
-    ensures { result ≡ workgroup_fits_32_bits sizes }
+/// Whether a workgroup has three sizes, of 32 bits each, and for each an override or none.
+pub(crate) fn workgroup_fits_32_bits(
+    sizes: [u32; 3],
+    _overrides: &[Option<Handle<Override>>; 3],
+) -> bool
+    ensures { result ≡ sizes_fit_32_bits sizes _overrides.now }
 {
     let [x, y, z] = sizes;
     fits_32_bits(x) && fits_32_bits(y) && fits_32_bits(z)

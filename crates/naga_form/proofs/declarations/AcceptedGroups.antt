@@ -55,6 +55,7 @@ use Rattle.module_semantics.specs.acceptance.Ranges.{special_types_fit, constant
 use Rattle.module_semantics.specs.acceptance.Ranges.{override_in_range, global_in_range, is_below}
 use Rattle.module_semantics.specs.acceptance.Soundness.{module_is_sound, function_is_sound}
 use Rattle.module_semantics.specs.acceptance.Soundness.{entry_point_is_sound, declarations_are_sound}
+use Rattle.module_semantics.proofs.EntryPointRanges.{entry_point_fits}
 use Rattle.module_semantics.proofs.Lists.{list_all_at, numbered_at}
 use Rattle.naga_naming.proofs.Refusal.{element}
 use Rattle.naga_form.proofs.operators.AgreeingUses.{AreKnown, AllFit, IsIn, in_right}
@@ -286,12 +287,6 @@ module _ (m : Module) (info : ModuleInfo) where
         let sizes = and_parts _ _ ranges_parts.0 in let more = and_parts _ _ sizes.1 in
         let range = and_parts _ _ ranges_parts.2 in let functions = and_parts _ _ range.1 in
         let own = list_all_at (entry_point_in_range m) m.entry_points.items k p functions.1 here in
-        let count = length m.global_variables in
-        let one = and_parts (is_below count (option_map (λ k. k.output_variable) p.mesh_info)) _ own in
-        let two = and_parts (is_below count p.task_payload) _ one.1 in
-        let three = and_parts (is_below count p.incoming_ray_payload) _ two.1 in
-        let four = and_parts (workgroup_fits_32_bits p.workgroup_size)
-        (function_in_range m (length m.functions) p.function) three.1 in
         let mapped = slice_get-map (λ p. p.function) m.entry_points.items k ∙ ap (option_map (λ p. p.function)) here in
         let known = and_parts _ _ ranges_parts.3 in
         let group = in_groups (map (λ p. p.function) m.entry_points.items) info.entry_points.items k p.function
@@ -304,7 +299,7 @@ module _ (m : Module) (info : ModuleInfo) where
               info.entry_points.items) _ k (function_group p.function es) group,
         ))
         (paired_at entry_point_size_fits m.entry_points.items info.entry_points.items more.0 k p es here there)
-        four.1
+        (entry_point_fits m p own).function
         (list_all_at (list_all (λ k. resolution_fits (length m.overrides) (length m.types) k.ty))
         info.entry_points.items k es (and_parts _ _ known.1).0 there)
         (paired_at (entry_point_is_sound m) m.entry_points.items info.entry_points.items sound_parts.2 k p es

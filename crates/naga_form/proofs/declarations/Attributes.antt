@@ -34,7 +34,7 @@ use Rattle.wgsl_text.specs.Attributes.{Coherent, Align, Size, Volatile, Worded, 
 use Rattle.wgsl_text.specs.Attributes.{AnyHit, ClosestHit, Miss, Mesh, Payload, IncomingPayload}
 use Rattle.wgsl_text.specs.Attributes.{after_location, after_size as may_follow_size}
 use Rattle.wgsl_text.specs.Attributes.{is_global_binding, is_id, is_io_binding, is_member_binding}
-use Rattle.wgsl_text.specs.Attributes.{is_stage}
+use Rattle.wgsl_text.specs.Attributes.{is_stage, SizePart, IsSizePart}
 use Rattle.wgsl_text.specs.Words.{IsIdentifier}
 use Rattle.text_semantics.specs.Attributes.{AnyHitStage, BuiltinValue, ClosestHitStage, ComputeStage}
 use Rattle.text_semantics.specs.Attributes.{MeshStage, MissStage, TaskStage}
@@ -46,10 +46,12 @@ use Rattle.text_semantics.specs.Attributes.{resource_binding_read, size_read, st
 use Rattle.text_semantics.specs.Attributes.{stage_read}
 use Rattle.module_semantics.specs.DeclarationForms.{binding_has_form, stage_has_form}
 use Rattle.module_semantics.specs.Interface.{stage_of}
-use Rattle.module_semantics.specs.Names.{global_name}
+use Rattle.module_semantics.specs.Names.{global_name, override_name}
+use Rattle.module_semantics.specs.WorkgroupSizes.{size_part, size_parts, size_parts_of}
+use Rattle.module_semantics.proofs.EntryPointRanges.{three}
 use Rattle.module_semantics.specs.acceptance.Numbers.{binding_fits_32_bits, fits_16_bits}
 use Rattle.module_semantics.specs.acceptance.Numbers.{fits_32_bits, resource_fits_32_bits}
-use Rattle.module_semantics.specs.acceptance.Numbers.{workgroup_fits_32_bits}
+use Rattle.module_semantics.specs.acceptance.Numbers.{sizes_fit_32_bits}
 use Rattle.module_semantics.specs.acceptance.Ranges.{is_below}
 use Rattle.module_semantics.specs.StageBindings.{binding_meant, is_coherent_memory, is_invariant}
 use Rattle.module_semantics.specs.StageBindings.{is_volatile_memory, stage_binding}
@@ -204,8 +206,8 @@ volatile_is_read g = volatile_read g.binding (is_coherent_memory g.memory_decora
 
 -- ---- entry points
 -- with three sizes
-module _ (names : NameMap) (e : EntryPoint) (x y z : ℕ) (sizes : e.workgroup_size ≡ x ∷ y ∷ z ∷ []) where
-  abbrev size : List ℕ
+module _ (names : NameMap) (e : EntryPoint) (x y z : SizePart) (sizes : size_parts names e ≡ x ∷ y ∷ z ∷ []) where
+  abbrev size : List SizePart
   size = x ∷ y ∷ z ∷ []
 
   mesh_read : (output : Option MeshStageInfo) (payload : Option ℕ) → is_some output ≡ true →
@@ -437,35 +439,49 @@ global_attributes_are g fits =
     (plain_if Volatile (is_volatile_memory g.memory_decorations)))
 
 -- entry points
--- three sizes of 32 bits
-pub record ThreeSizes (sizes : List ℕ) : Type 0 where
-  pub x : ℕ
-  pub y : ℕ
-  pub z : ℕ
-  pub are : sizes ≡ x ∷ y ∷ z ∷ []
-  pub fit : (x < 2 ^ 32) × (y < 2 ^ 32) × (z < 2 ^ 32)
+-- a workgroup's size along three axes, and that each part is one of the grammar where overrides have
+-- identifiers for names
+pub record ThreeSizes (names : NameMap) (sizes : List ℕ) (overrides : List (Option ℕ)) : Type 0 where
+  pub x : SizePart
+  pub y : SizePart
+  pub z : SizePart
+  pub are : size_parts_of names sizes overrides ≡ x ∷ y ∷ z ∷ []
+  pub fit : (count : ℕ) → ((o : ℕ) → o < count → IsIdentifier (override_name names o)) →
+      list_all (is_below count) overrides ≡ true → IsSizePart x × IsSizePart y × IsSizePart z
 
-pub three_sizes : (sizes : List ℕ) → workgroup_fits_32_bits sizes ≡ true → ThreeSizes sizes
-three_sizes [] fits = absurd cc
-three_sizes (x ∷ []) fits = absurd cc
-three_sizes (x ∷ y ∷ []) fits = absurd cc
-three_sizes (x ∷ y ∷ z ∷ []) fits =
-    let one = and_parts (fits_32_bits x) _ fits in
-    let two = and_parts (fits_32_bits y) _ one.1 in
-    let three = and_parts (fits_32_bits z) true two.1 in
-    record {
-      x = x;
-      y = y;
-      z = z;
-      are = refl;
-      fit = (plain_number x one.0, plain_number y two.0, plain_number z three.0);
-    }
-three_sizes (x ∷ y ∷ z ∷ w ∷ more) fits =
-    let counted = eqb-true (length (x ∷ y ∷ z ∷ w ∷ more)) 3
-    (and_parts (length (x ∷ y ∷ z ∷ w ∷ more) == 3) (list_all fits_32_bits (x ∷ y ∷ z ∷ w ∷ more)) fits).0 in
-    absurd (omega (arith, counted))
+module _ (names : NameMap) where
+  size_part_is : (n : ℕ) (o : Option ℕ) → fits_32_bits n ≡ true → (count : ℕ) →
+      ((o : ℕ) → o < count → IsIdentifier (override_name names o)) →
+      is_below count o ≡ true → IsSizePart (size_part names n o)
+  size_part_is n None fits count named below = plain_number n fits
+  size_part_is n (Some o) fits count named below = named o (ltb-true o count below)
 
-module _ (names : NameMap) (e : EntryPoint) (x y z : ℕ) (sizes : e.workgroup_size ≡ x ∷ y ∷ z ∷ []) where
+  pub three_sizes : (sizes : List ℕ) (overrides : List (Option ℕ)) →
+      sizes_fit_32_bits sizes overrides ≡ true → ThreeSizes names sizes overrides
+  three_sizes sizes overrides fits =
+      let first = and_parts (length sizes == 3) _ fits in
+      let second = and_parts (length overrides == 3) (list_all fits_32_bits sizes) first.1 in
+      let ns = three sizes (eqb-true (length sizes) 3 first.0) in
+      let os = three overrides (eqb-true (length overrides) 3 second.0) in
+      let x = and_parts (fits_32_bits ns.x) _ (sym (ap (list_all fits_32_bits) ns.are) ∙ second.1) in
+      let y = and_parts (fits_32_bits ns.y) _ x.1 in
+      let z = and_parts (fits_32_bits ns.z) true y.1 in
+      record {
+        x = size_part names ns.x os.x;
+        y = size_part names ns.y os.y;
+        z = size_part names ns.z os.z;
+        are = λ i. size_parts_of names (ns.are i) (os.are i);
+        fit = λ count named below.
+            let a = and_parts (is_below count os.x) _ (sym (ap (list_all (is_below count)) os.are) ∙ below) in
+            let b = and_parts (is_below count os.y) _ a.1 in
+            let c = and_parts (is_below count os.z) true b.1 in (
+              size_part_is ns.x os.x x.0 count named a.0,
+              size_part_is ns.y os.y y.0 count named b.0,
+              size_part_is ns.z os.z z.0 count named c.0,
+            );
+      }
+
+module _ (names : NameMap) (e : EntryPoint) (x y z : SizePart) (sizes : size_parts names e ≡ x ∷ y ∷ z ∷ []) where
   mesh_stage : (output : Option MeshStageInfo) (payload : Option ℕ) → is_some output ≡ true →
       is_stage (attribute_of (λ i. Worded Mesh (global_name names i.output_variable)) output ++
       (size_attributes (x ∷ y ∷ z ∷ []) ++ attribute_of (λ v. Worded Payload (global_name names v)) payload)) ≡ true
@@ -508,14 +524,14 @@ module _ (names : NameMap) (e : EntryPoint) (x y z : ℕ) (sizes : e.workgroup_s
       by (Some v) is = refl
   stage_is _ is = refl
 
-  -- the variables that it names are there and have identifiers for names, and its sizes have 32 bits
+  -- the variables that it names are there and have identifiers for names, and its sizes are of the grammar
   module _ (count : ℕ) (named : (v : ℕ) → v < count → IsIdentifier (global_name names v))
       (output_below : is_below count (option_map (λ k. k.output_variable) e.mesh_info) ≡ true)
       (payload_below : is_below count e.task_payload ≡ true)
       (incoming_below : is_below count e.incoming_ray_payload ≡ true)
-      (fits : (x < 2 ^ 32) × (y < 2 ^ 32) × (z < 2 ^ 32))
+      (fits : IsSizePart x × IsSizePart y × IsSizePart z)
     where
-      size_is : (l : List ℕ) → x ∷ y ∷ z ∷ [] ≡ l → IsAttributes (size_attributes l)
+      size_is : (l : List SizePart) → x ∷ y ∷ z ∷ [] ≡ l → IsAttributes (size_attributes l)
       size_is l same = subst (λ l. IsAttributes (size_attributes l)) same (fits, tt)
 
       variable_is : (a : WordedAttribute) → ((w : List ℕ) → IsIdentifier w → IsAttributes (Worded a w ∷ [])) →
@@ -535,13 +551,13 @@ module _ (names : NameMap) (e : EntryPoint) (x y z : ℕ) (sizes : e.workgroup_s
       mesh_is (Some i) below = (named i.output_variable (ltb-true i.output_variable count below), tt)
 
       pub stage_attributes_are : (s : ShaderStage) → IsAttributes (stage_attributes names e s)
-      stage_attributes_are stage.Compute = (tt, size_is e.workgroup_size (sym sizes))
+      stage_attributes_are stage.Compute = (tt, size_is (size_parts names e) (sym sizes))
       stage_attributes_are stage.Mesh =
           both_attributes (attribute_of (λ i. Worded Mesh (global_name names i.output_variable)) e.mesh_info) _
           (mesh_is e.mesh_info output_below)
-          (both_attributes (size_attributes e.workgroup_size) _ (size_is e.workgroup_size (sym sizes)) payload_is)
+          (both_attributes (size_attributes (size_parts names e)) _ (size_is (size_parts names e) (sym sizes)) payload_is)
       stage_attributes_are stage.Task =
-          (tt, both_attributes (payload_attributes names e) _ payload_is (size_is e.workgroup_size (sym sizes)))
+          (tt, both_attributes (payload_attributes names e) _ payload_is (size_is (size_parts names e) (sym sizes)))
       stage_attributes_are stage.AnyHit = (tt, incoming_is)
       stage_attributes_are stage.ClosestHit = (tt, incoming_is)
       stage_attributes_are stage.Miss = (tt, incoming_is)

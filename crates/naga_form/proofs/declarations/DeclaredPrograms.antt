@@ -60,7 +60,7 @@ use Rattle.wgsl_text.specs.Tables.{access_words}
 use Rattle.wgsl_text.specs.Types.{IsType}
 use Rattle.wgsl_text.specs.Words.{IsIdentifier, stands_in}
 use Rattle.wgsl_words.specs.Words.{space_access_word, space_word}
-use Rattle.naga_form.proofs.statements.AcceptedFunctions.{entry_point_is_in_range}
+use Rattle.naga_form.proofs.statements.AcceptedFunctions.{entry_point_parts}
 use Rattle.naga_form.proofs.declarations.AcceptedGroups.{numbers_at, types_are_fit}
 use Rattle.naga_form.proofs.declarations.Attributes.{global_attributes_are, id_attributes_are}
 use Rattle.naga_form.proofs.declarations.Attributes.{id_is, global_is as global_binding_is}
@@ -73,7 +73,7 @@ use Rattle.naga_form.proofs.names.MemberNames.{member_is_word}
 use Rattle.naga_form.proofs.names.Names.{item_is_identifier}
 use Rattle.naga_form.proofs.operators.Operators.{HasFormAt}
 use Rattle.naga_form.proofs.types.SameValues.{TypesAreFit, constant_identifier, global_identifier}
-use Rattle.naga_form.proofs.types.SameValues.{override_identifier, tree_is}
+use Rattle.naga_form.proofs.types.SameValues.{override_identifier, override_is_identifier, tree_is}
 use Rattle.naga_form.proofs.types.TypeTrees.{storage_is}
 use Rattle.naga_form.proofs.statements.WrittenFunctions.{entry_point_at}
 use Rattle.naga_form.proofs.declarations.OwnExpressions.{declared_in_range, global_names_in_range}
@@ -236,7 +236,7 @@ module _ (m : Module) (info : ModuleInfo) (accepted : IsTrue (is_accepted m info
           members = map (member_form names type_words m h) (enumerate_from 0 (members_of t.inner));
         })
     struct_is h t at declared = record {
-      name = item_is_identifier m (key.Type_ h, _) (type_stands wgsl_names m h t at);
+      name = item_is_identifier m (key.Type_ h, _) (type_stands (wgsl_names m) m h t at);
       members = each_form IsMember (member_form names type_words m h) (members_of t.inner) member_is;
     }
       where
@@ -264,7 +264,7 @@ module _ (m : Module) (info : ModuleInfo) (accepted : IsTrue (is_accepted m info
     constants_are =
         each_kept IsNamedConstant (constant_form names type_words m) m.constants
         (λ c k at. kept_if IsNamedConstant (is_some k.name) _ (λ named. record {
-          name = item_is_identifier m (key.Constant c, _) (constant_stands wgsl_names m c k at);
+          name = item_is_identifier m (key.Constant c, _) (constant_stands (wgsl_names m) m c k at);
           type = declared_type k.ty (IsDeclaredType.OfConstant c k at named);
           value = formed_global k.init
               (declarations.initialisers k.init (IsInitialiser.OfConstant c k at named));
@@ -280,7 +280,7 @@ module _ (m : Module) (info : ModuleInfo) (accepted : IsTrue (is_accepted m info
           attributes = id_attributes_are k.id
               (and_parts (is_below (length m.global_expressions) k.init) _ one.1).1;
           id = id_is k.id;
-          name = item_is_identifier m (key.Override o, _) (override_stands wgsl_names m o k at);
+          name = item_is_identifier m (key.Override o, _) (override_stands (wgsl_names m) m o k at);
           type = declared_type k.ty (IsDeclaredType.OfOverride o k at);
           value = value_is k.init (λ handle is. IsInitialiser.OfOverride o k handle at is);
         }
@@ -301,7 +301,7 @@ module _ (m : Module) (info : ModuleInfo) (accepted : IsTrue (is_accepted m info
               (and_parts (is_below (length m.global_expressions) k.init) _ one.1).1;
           binding = global_binding_is k;
           space = space_is k.space;
-          name = item_is_identifier m (key.GlobalVariable v, _) (global_stands wgsl_names m v k at);
+          name = item_is_identifier m (key.GlobalVariable v, _) (global_stands (wgsl_names m) m v k at);
           type = declared_type k.ty (IsDeclaredType.OfVariable v k at);
           value = value_is k.init (λ handle is. IsInitialiser.OfVariable v k handle at is);
         }
@@ -318,16 +318,11 @@ module _ (m : Module) (info : ModuleInfo) (accepted : IsTrue (is_accepted m info
       IsAttributes (stage_attributes names p p.stage) ×
       (is_stage (stage_attributes names p p.stage) ≡ true)
   stage_formed j p at has =
-      let count = length m.global_variables in
-      let one = and_parts (is_below count (option_map (λ k. k.output_variable) p.mesh_info)) _
-      (entry_point_is_in_range m info accepted j p at) in
-      let two = and_parts (is_below count p.task_payload) _ one.1 in
-      let three = and_parts (is_below count p.incoming_ray_payload) _ two.1 in
-      let four = and_parts (workgroup_fits_32_bits p.workgroup_size)
-      (function_in_range m (length m.functions) p.function) three.1 in
-      let sizes = three_sizes p.workgroup_size four.0 in (
-        stage_attributes_are names p sizes.x sizes.y sizes.z sizes.are count (global_identifier m)
-            one.0 two.0 three.0 sizes.fit p.stage,
+      let fits = entry_point_parts m info accepted j p at in
+      let sizes = three_sizes names p.workgroup_size p.workgroup_size_overrides fits.sizes in (
+        stage_attributes_are names p sizes.x sizes.y sizes.z sizes.are (length m.global_variables)
+            (global_identifier m) fits.output fits.payload fits.incoming
+            (sizes.fit (length m.overrides) (override_is_identifier m) fits.overrides) p.stage,
         stage_is names p sizes.x sizes.y sizes.z sizes.are p.stage has,
       )
 

@@ -83,12 +83,13 @@ use Rattle.naga_form.specs.Functions.{function_form, functions_under, locals_for
 use Rattle.naga_form.specs.Functions.{result_form}
 use Rattle.naga_form.specs.TypeTrees.{type_tree}
 use Rattle.naga_form.specs.Types.{annotated_type, type_form}
-use Rattle.naga_form.proofs.statements.AcceptedFunctions.{entry_point_is_in_range}
+use Rattle.naga_form.proofs.statements.AcceptedFunctions.{entry_point_parts}
 use Rattle.naga_form.proofs.statements.AcceptedFunctions.{entry_points_counted, functions_counted}
 use Rattle.naga_form.proofs.statements.AcceptedFunctions.{known_there, of_number, soundness_is}
 use Rattle.naga_form.proofs.declarations.Attributes.{coherent_is_read, id_is_read, member_read}
 use Rattle.naga_form.proofs.declarations.Attributes.{passing_read, resource_is_read, stage_is_read}
 use Rattle.naga_form.proofs.declarations.Attributes.{volatile_is_read}
+use Rattle.naga_form.proofs.declarations.Attributes.{three_sizes}
 use Rattle.naga_form.proofs.Facts.{from_start, further}
 use Rattle.naga_form.proofs.types.Layouts.{keeps_layouts}
 use Rattle.naga_form.proofs.declarations.GlobalValues.{values_alike}
@@ -373,31 +374,11 @@ module _ (m : Module) where
     module _ (accepted : IsTrue (is_accepted m info)) where
       own_stage_is_read : (j : ℕ) (p : EntryPoint) → slice_get m.entry_points.items j ≡ Some p →
           stage_read (stage_attributes names p p.stage) ≡ stage_of names p p.stage
-      own_stage_is_read j p at = by p.workgroup_size refl three
-        where
-          three : length p.workgroup_size ≡ 3
-          three =
-              let own = entry_point_is_in_range m info accepted j p at in
-              let count = length m.global_variables in
-              let one =
-              and_parts (is_below count (option_map (λ k. k.output_variable) p.mesh_info)) _ own in
-              let two = and_parts (is_below count p.task_payload) _ one.1 in
-              let following = and_parts (is_below count p.incoming_ray_payload) _ two.1 in
-              let sizes = and_parts (workgroup_fits_32_bits p.workgroup_size) _ following.1 in
-              eqb-true (length p.workgroup_size) 3
-              (and_parts (length p.workgroup_size == 3) (list_all fits_32_bits p.workgroup_size)
-              sizes.0).0
-
-          has : stage_has_form p p.stage ≡ true
-          has = (declarations.heads (length m.functions + j)).stage p (entry_point_at m j ∙ at)
-
-          by : (sizes : List ℕ) → p.workgroup_size ≡ sizes → length sizes ≡ 3 →
-              stage_read (stage_attributes names p p.stage) ≡ stage_of names p p.stage
-          by (x ∷ y ∷ z ∷ []) is three = stage_is_read names p x y z is p.stage has
-          by [] is three = absurd cc
-          by (x ∷ []) is three = absurd cc
-          by (x ∷ y ∷ []) is three = absurd cc
-          by (x ∷ y ∷ z ∷ a ∷ more) is three = absurd (omega (arith, three))
+      own_stage_is_read j p at =
+          let fits = entry_point_parts m info accepted j p at in
+          let sizes = three_sizes names p.workgroup_size p.workgroup_size_overrides fits.sizes in
+          stage_is_read names p sizes.x sizes.y sizes.z sizes.are p.stage
+          ((declarations.heads (length m.functions + j)).stage p (entry_point_at m j ∙ at))
 
       entry_points_declared : (j : ℕ) (ps : List EntryPoint) (ess : List (List ExpressionInfo)) →
           length ps ≡ length ess →

@@ -38,7 +38,7 @@ use Rattle.wgsl_text.specs.Reading.{printed_type}
 use Rattle.wgsl_text.specs.Types.{Named, plain_type_words}
 use Rattle.wgsl_text.specs.Words.{stands_in}
 use Rattle.naga_form.proofs.statements.AcceptedFunctions.{entry_points_counted}
-use Rattle.naga_form.proofs.statements.AcceptedFunctions.{stage_variables_within}
+use Rattle.naga_form.proofs.statements.AcceptedFunctions.{entry_point_parts}
 use Rattle.naga_form.proofs.declarations.AcceptedGroups.{declarations_are, fit_of}
 use Rattle.naga_form.proofs.declarations.AcceptedGroups.{types_are_counted, types_are_fit}
 use Rattle.naga_form.proofs.declarations.DeclaredStructs.{members_found, override_not_found}
@@ -156,10 +156,11 @@ module _ (m : Module) (info : ModuleInfo) (flags : WriterFlags) (labels : LabelN
   -- ---- stages
   pub stages_resolve : stage_targets program ≡ map (map Some) (module_stage_targets m)
   stages_resolve =
-      stages_named (module_names m) names (length m.global_variables)
-      (variable_found m info flags labels accepted) flags labels m info
+      stages_named (module_names m) m names (variable_found m info flags labels accepted)
+      (λ o lt. ap names (sym (or_nothing (module_names m (key.Override o))))
+      ∙ override_found m info flags labels accepted o lt) flags labels info
       (length m.functions) m.entry_points.items info.entry_points.items
-      (entry_points_counted m info accepted) (stage_variables_within m info accepted)
+      (entry_points_counted m info accepted) (entry_point_parts m info accepted)
 
   -- ---- types
   -- a struct and an override are what their names stand for

@@ -54,20 +54,20 @@ begins (w ∷ a) x r (z ∷ b) y s same lt =
     let inner = begins a x r b y s tails (omega (arith, lt)) in
     (inner.0, λ i. head i ∷ inner.1 i)
 
-module _ (labels : List (List ℕ)) where
+module _ (m : Module) (labels : List (List ℕ)) where
   -- labels at two indices have different names
   differ : (a : List (List ℕ)) (x : List ℕ) (b : List (List ℕ)) (y : List ℕ) →
       StandsAfter labels a x → StandsAfter labels b y → length a < length b →
-      name_after wgsl_names a x ≡ name_after wgsl_names b y → ⊥
+      name_after (wgsl_names m) a x ≡ name_after (wgsl_names m) b y → ⊥
   differ a x b y s t lt same =
       let middle = begins a x s.rest b y t.rest (sym s.all ∙ t.all) lt in
-      names_differ wgsl_names a x middle.0 y
-      (same ∙ ap (λ e. name_after wgsl_names e y) middle.1)
+      names_differ (wgsl_names m) a x middle.0 y
+      (same ∙ ap (λ e. name_after (wgsl_names m) e y) middle.1)
 
   -- two indices with one name are one
   pub names_tell : (a : List (List ℕ)) (x : List ℕ) (b : List (List ℕ)) (y : List ℕ) →
       StandsAfter labels a x → StandsAfter labels b y →
-      name_after wgsl_names a x ≡ name_after wgsl_names b y → length a ≡ length b
+      name_after (wgsl_names m) a x ≡ name_after (wgsl_names m) b y → length a ≡ length b
   names_tell a x b y s t same = by (cases_order (length a) (length b))
     where
       by : (length a ≡ length b) ⊎ ((length a < length b) ⊎ (length b < length a)) →
@@ -85,22 +85,22 @@ module _ (m : Module) (later labels : List (List ℕ)) where
   all = earlier ++ labels
 
   -- where the label of an item stands
-  abbrev before_item : (item : LabelledItem) → Stands (labelled_items wgsl_names m) item →
+  abbrev before_item : (item : LabelledItem) → Stands (labelled_items (wgsl_names m) m) item →
       List (List ℕ)
-  before_item item s = labels_of (take s.index (labelled_items wgsl_names m))
+  before_item item s = labels_of (take s.index (labelled_items (wgsl_names m) m))
 
   -- the labels of items are those in front of one, that one, and others
-  split_item : (item : LabelledItem) (s : Stands (labelled_items wgsl_names m) item) →
+  split_item : (item : LabelledItem) (s : Stands (labelled_items (wgsl_names m) m) item) →
       StandsAfter (item_labels m) (before_item item s) item.1
   split_item item s =
-      let parts = split_at (labelled_items wgsl_names m) s.index item s.there in
+      let parts = split_at (labelled_items (wgsl_names m) m) s.index item s.there in
       record {
         rest = labels_of parts.0;
         all = ap labels_of parts.1
-            ∙ labels_of-around (take s.index (labelled_items wgsl_names m)) item parts.0 s.outside;
+            ∙ labels_of-around (take s.index (labelled_items (wgsl_names m) m)) item parts.0 s.outside;
       }
 
-  item_stands : (item : LabelledItem) (s : Stands (labelled_items wgsl_names m) item) →
+  item_stands : (item : LabelledItem) (s : Stands (labelled_items (wgsl_names m) m) item) →
       StandsAfter all (before_item item s) item.1
   item_stands item s =
       let first = before_item item s in
@@ -112,7 +112,7 @@ module _ (m : Module) (later labels : List (List ℕ)) where
             ∙ append_assoc first (item.1 ∷ (own.rest ++ later)) labels);
       }
 
-  before_item_short : (item : LabelledItem) (s : Stands (labelled_items wgsl_names m) item) →
+  before_item_short : (item : LabelledItem) (s : Stands (labelled_items (wgsl_names m) m) item) →
       length (before_item item s) < length (item_labels m)
   before_item_short item s =
       let first = before_item item s in
@@ -136,35 +136,35 @@ module _ (m : Module) (later labels : List (List ℕ)) where
 
   -- it is named after these
   abbrev name : ℕ → List ℕ
-  name k = name_of_label wgsl_names earlier labels k
+  name k = name_of_label (wgsl_names m) earlier labels k
 
   named_name_is : (k : ℕ) (label : List ℕ) → slice_get labels k ≡ Some label →
-      name k ≡ name_after wgsl_names (before_named k) label
+      name k ≡ name_after (wgsl_names m) (before_named k) label
   named_name_is k label at =
-      ap (λ o. option_map_or (name_after wgsl_names (before_named k)) o []) at
+      ap (λ o. option_map_or (name_after (wgsl_names m) (before_named k)) o []) at
 
   named_is_identifier : (k : ℕ) → k < length labels → IsIdentifier (name k)
   named_is_identifier k lt =
       let label = element labels k lt in
       subst IsIdentifier (sym (named_name_is k label.0 label.1))
-      (is_identifier (before_named k) label.0)
+      (is_identifier m (before_named k) label.0)
 
   -- no handle that front ends did not name has it
   named_not_numbered : (k : ℕ) → k < length labels → (h : ℕ) → name k ≢ numbered_name h
   named_not_numbered k lt h e =
       let label = element labels k lt in
       let before = before_named k in
-      unnumbered (name_after wgsl_names before label.0) h
-      (name_after_is_word wgsl_names before label.0)
-      (name_after_not_numbered wgsl_names before label.0 h)
+      unnumbered (name_after (wgsl_names m) before label.0) h
+      (name_after_is_word (wgsl_names m) before label.0)
+      (name_after_not_numbered (wgsl_names m) before label.0 h)
       (sym (named_name_is k label.0 label.1) ∙ e)
 
   -- nor has an item of the module
   named_no_item : (k : ℕ) → k < length labels → (item : LabelledItem) →
-      Stands (labelled_items wgsl_names m) item → name_in (module_names m) item.0 ≢ name k
+      Stands (labelled_items (wgsl_names m) m) item → name_in (module_names m) item.0 ≢ name k
   named_no_item k lt item s e =
       let label = element labels k lt in
-      let same = names_tell all (before_item item s) item.1 (before_named k) label.0
+      let same = names_tell m all (before_item item s) item.1 (before_named k) label.0
       (item_stands item s) (named_stands k label.0 label.1)
       (sym (name_is m item s) ∙ (e ∙ named_name_is k label.0 label.1)) in
       let short = before_item_short item s in
@@ -177,7 +177,7 @@ module _ (m : Module) (later labels : List (List ℕ)) where
   named_tell j k lj lk e =
       let a = element labels j lj in
       let b = element labels k lk in
-      let same = names_tell all (before_named j) a.0 (before_named k) b.0
+      let same = names_tell m all (before_named j) a.0 (before_named k) b.0
       (named_stands j a.0 a.1) (named_stands k b.0 b.1)
       (sym (named_name_is j a.0 a.1) ∙ (e ∙ named_name_is k b.0 b.1)) in
       let one = length-append earlier (take j labels) in
@@ -190,7 +190,7 @@ module _ (m : Module) (later labels : List (List ℕ)) where
 module _ (m : Module) where
   -- those of one function, after any that are named after the labels of the module's items
   pub names_following : (f : ir_function.Function) (later : List (List ℕ)) →
-      AreLabelNamesOf m f (name_of_label wgsl_names (item_labels m ++ later) (expression_labels f))
+      AreLabelNamesOf m f (name_of_label (wgsl_names m) (item_labels m ++ later) (expression_labels f))
   names_following f later =
       let labels = expression_labels f in
       record {
@@ -206,10 +206,10 @@ module _ (m : Module) where
   names_after_at : (g : ℕ) (f : ir_function.Function) → slice_get (all_functions m) g ≡ Some f →
       (later : List (List ℕ)) →
       AreLabelNamesOf m f
-      (name_of_label wgsl_names (item_labels m ++ later) (labels_named_in m g))
+      (name_of_label (wgsl_names m) (item_labels m ++ later) (labels_named_in m g))
   names_after_at g f found later =
       subst (λ o. AreLabelNamesOf m f
-      (name_of_label wgsl_names (item_labels m ++ later) (option_map_or expression_labels o [])))
+      (name_of_label (wgsl_names m) (item_labels m ++ later) (option_map_or expression_labels o [])))
       (sym found) (names_following f later)
 
   -- in a text of the whole module each function's labels are named after those of the functions in
@@ -228,11 +228,11 @@ module _ (m : Module) where
   pub names_after_are : (number : ℕ) (later : List (List ℕ)) →
       AreLabelNames m
       (named_apart m number
-      (name_of_label wgsl_names (item_labels m ++ later) (labels_named_in m number)))
+      (name_of_label (wgsl_names m) (item_labels m ++ later) (labels_named_in m number)))
   names_after_are number later g f found = by (g == number) refl
     where
       own : ℕ → List ℕ
-      own = name_of_label wgsl_names (item_labels m ++ later) (labels_named_in m number)
+      own = name_of_label (wgsl_names m) (item_labels m ++ later) (labels_named_in m number)
 
       by : (b : Bool) → g == number ≡ b →
           AreLabelNamesOf m f (if b then own else expression_name m g)
@@ -245,7 +245,7 @@ module _ (m : Module) where
   pub names_of_each_are : (later : (number : ℕ) → List (List ℕ)) →
       AreLabelNames m
       (λ number.
-      name_of_label wgsl_names (item_labels m ++ later number) (labels_named_in m number))
+      name_of_label (wgsl_names m) (item_labels m ++ later number) (labels_named_in m number))
   names_of_each_are later g f found = names_after_at g f found (later g)
 
   -- ---- what names of labels are
@@ -253,7 +253,7 @@ module _ (m : Module) where
       (are : AreLabelNamesOf m f named) where
     -- none is that of an item of the module
     pub label_no_item : (k : ℕ) → k < length (expression_labels f) → (item : LabelledItem) →
-        Stands (labelled_items wgsl_names m) item → name_in (module_names m) item.0 ≢ named k
+        Stands (labelled_items (wgsl_names m) m) item → name_in (module_names m) item.0 ≢ named k
     label_no_item k lt item s = are.no_item k lt s.index item s.there s.outside
 
     -- nor what is no word, or one of WGSL's own

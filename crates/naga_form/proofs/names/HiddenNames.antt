@@ -75,16 +75,16 @@ module _ (m : Module) (info : ModuleInfo) (flags : WriterFlags) (labels : LabelN
   override_names = map (λ v. v.name) program.overrides
 
   override_from : (j : ℕ) (w : List ℕ) → slice_get override_names j ≡ Some w →
-      (item : LabelledItem) × Stands (labelled_items wgsl_names m) item
+      (item : LabelledItem) × Stands (labelled_items (wgsl_names m) m) item
       × (is_in_types item.0 ≡ true) × (name_in (module_names m) item.0 ≡ w)
   override_from j w at =
       let v = map_some (λ v. v.name) (slice_get program.overrides j) w
       (sym (slice_get-map (λ v. v.name) program.overrides j) ∙ at) in
       let x = made_from (override_form (module_names m) (type_names m) m) m.overrides j v.0 v.1 in
-      (_, override_stands wgsl_names m j x.0 x.1, refl, ap (λ v. v.name) x.2 ∙ v.2)
+      (_, override_stands (wgsl_names m) m j x.0 x.1, refl, ap (λ v. v.name) x.2 ∙ v.2)
 
   -- a name that none of these items has is in no type
-  free_if : (w : List ℕ) → ((item : LabelledItem) → Stands (labelled_items wgsl_names m) item →
+  free_if : (w : List ℕ) → ((item : LabelledItem) → Stands (labelled_items (wgsl_names m) m) item →
       is_in_types item.0 ≡ true → name_in (module_names m) item.0 ≢ w) →
       is_in_no_type program w ≡ true
   free_if w differs =
@@ -95,7 +95,7 @@ module _ (m : Module) (info : ModuleInfo) (flags : WriterFlags) (labels : LabelN
       in_structs : (j : ℕ) → slice_get (struct_names m info flags labels) j ≡ Some w → ⊥
       in_structs j at =
           let x = name_from m info flags labels j w at in
-          differs _ (type_stands wgsl_names m x.1.handle x.1.type x.1.there) refl
+          differs _ (type_stands (wgsl_names m) m x.1.handle x.1.type x.1.there) refl
           (sym x.1.name ∙ x.2)
 
       in_overrides : (j : ℕ) → slice_get override_names j ≡ Some w → ⊥

@@ -70,7 +70,7 @@ module _ (m : Module) where
   -- ---- items
   -- an item with this key is among those that are named
   abbrev pub HasItem : NameKey → Type 0
-  HasItem k = (label : List ℕ) × Stands (labelled_items wgsl_names m) (k, label)
+  HasItem k = (label : List ℕ) × Stands (labelled_items (wgsl_names m) m) (k, label)
 
   -- items with one name have one key
   pub keys_tell : (j k : NameKey) → HasItem j → HasItem k →
@@ -83,14 +83,14 @@ module _ (m : Module) where
 
   pub global_has : (v : ℕ) → v < length m.global_variables → HasItem (key.GlobalVariable v)
   global_has v lt =
-      let a = element m.global_variables v lt in (_, global_stands wgsl_names m v a.0 a.1)
+      let a = element m.global_variables v lt in (_, global_stands (wgsl_names m) m v a.0 a.1)
 
   pub type_has : (h : ℕ) (t : Type_) → slice_get m.types h ≡ Some t → HasItem (key.Type_ h)
-  type_has h t at = (_, type_stands wgsl_names m h t at)
+  type_has h t at = (_, type_stands (wgsl_names m) m h t at)
 
   pub override_has : (h : ℕ) (o : Override) → slice_get m.overrides h ≡ Some o →
       HasItem (key.Override h)
-  override_has h o at = (_, override_stands wgsl_names m h o at)
+  override_has h o at = (_, override_stands (wgsl_names m) m h o at)
 
   pub numbered_has : (i : ℕ) → i < named_count m.constants + length m.overrides →
       HasItem (numbered_key m i)
@@ -98,7 +98,7 @@ module _ (m : Module) where
     where
       by : IsNumberedIn m i → HasItem (numbered_key m i)
       by (OfConstant h c there count is) =
-          subst HasItem (sym is) (_, constant_stands wgsl_names m h c there)
+          subst HasItem (sym is) (_, constant_stands (wgsl_names m) m h c there)
       by (OfOverride h o there count is) = subst HasItem (sym is) (override_has h o there)
 
   -- ---- words

@@ -14,7 +14,7 @@ use Rattle.naga_form.proofs.names.Names.{is_word_after}
 
 -- the names of a module are those of its items alone
 pub puts : (m : Module) →
-    PutsInto (λ _. None) (named_items wgsl_names (labelled_items wgsl_names m)) (module_names m)
+    PutsInto (λ _. None) (named_items (wgsl_names m) (labelled_items (wgsl_names m) m)) (module_names m)
 unfolding module_names
 puts m = record { finds = λ key. refl }
 
@@ -24,9 +24,9 @@ pub member_names_tell : (m : Module) (t : ℕ) (ty : Type_) → slice_get m.type
     slice_get (members_of ty.inner) k ≡ Some b →
     name_in (module_names m) (key.StructMember t n) ≡ name_in (module_names m) (key.StructMember t k) → n ≡ k
 member_names_tell m t ty found n k a b here there same =
-    let one = member_put wgsl_names m t ty found n a here (λ _. None) (module_names m) (puts m) in
-    let two = member_put wgsl_names m t ty found k b there (λ _. None) (module_names m) (puts m) in
-    put_members_distinguished wgsl_names m (λ _. None) (module_names m) (puts m) t ty found n k a b here there
+    let one = member_put (wgsl_names m) m t ty found n a here (λ _. None) (module_names m) (puts m) in
+    let two = member_put (wgsl_names m) m t ty found k b there (λ _. None) (module_names m) (puts m) in
+    put_members_distinguished (wgsl_names m) m (λ _. None) (module_names m) (puts m) t ty found n k a b here there
     (one ∙ (ap Some (sym (ap (λ o. unwrap_or o []) one) ∙ (same ∙ ap (λ o. unwrap_or o []) two)) ∙ sym two))
 
 -- each is named by a word
@@ -34,7 +34,7 @@ pub member_is_word : (m : Module) (t : ℕ) (ty : Type_) → slice_get m.types t
     (n : ℕ) (a : StructMember) → slice_get (members_of ty.inner) n ≡ Some a →
     IsWord (name_in (module_names m) (key.StructMember t n))
 member_is_word m t ty found n a there =
-    let put = member_put wgsl_names m t ty found n a there (λ _. None) (module_names m) (puts m) in
+    let put = member_put (wgsl_names m) m t ty found n a there (λ _. None) (module_names m) (puts m) in
     subst IsWord (sym (ap (λ o. unwrap_or o []) put))
-    (is_word_after (member_names wgsl_names) refl (map member_label (take n (members_of ty.inner)))
+    (is_word_after m (member_names (wgsl_names m)) refl (map member_label (take n (members_of ty.inner)))
     (member_label a))

@@ -125,37 +125,38 @@ contains_words : {K : Type 0} (read : K → List ℕ) (ks : List K) (w : List �
 contains_words read ks w = contains-texts_of read ks w ∙ stands_as_any read ks w
 
 -- names that keep off these words do, of items and of members
-keeps_off_reserved : (start : NamerNames) → start.keywords ≡ wgsl_names.keywords →
+keeps_off_reserved : (m : Module) (start : NamerNames) → start.keywords ≡ (wgsl_names m).keywords →
     (earlier : List (List ℕ)) (label : List ℕ) → is_reserved (name_after start earlier label) ≡ false
 unfolding wgsl_names reserved_words is_reserved
-keeps_off_reserved start same earlier label =
+keeps_off_reserved m start same earlier label =
     let plain = plain_ends (map (λ word. word.now) RESERVED.now)
     (words_are (map (λ word. word.now) RESERVED.now) refl) in
     sym (contains_words (λ word. word.now) RESERVED.now (name_after start earlier label))
     ∙ ap (λ words. set.contains words (name_after start earlier label)) (sym same)
     ∙ name_after_no_keyword start earlier label (subst HasPlainEnds (sym same) plain)
 
-keeps_off_builtin : (earlier : List (List ℕ)) (label : List ℕ) →
-    is_builtin (name_after wgsl_names earlier label) ≡ false
+keeps_off_builtin : (m : Module) (earlier : List (List ℕ)) (label : List ℕ) →
+    is_builtin (name_after (wgsl_names m) earlier label) ≡ false
 unfolding wgsl_names builtin_words is_builtin
-keeps_off_builtin earlier label =
-    sym (contains_words (λ word. word.now) BUILTIN_IDENTIFIERS.now (name_after wgsl_names earlier label))
-    ∙ name_after_no_builtin wgsl_names earlier label
+keeps_off_builtin m earlier label =
+    sym (contains_words (λ word. word.now) BUILTIN_IDENTIFIERS.now (name_after (wgsl_names m) earlier label))
+    ∙ name_after_no_builtin (wgsl_names m) earlier label
     (plain_ends (map (λ word. word.now) BUILTIN_IDENTIFIERS.now)
     (words_are (map (λ word. word.now) BUILTIN_IDENTIFIERS.now) refl))
 
 -- they are words of the grammar
-pub is_word_after : (start : NamerNames) → start.keywords ≡ wgsl_names.keywords →
+pub is_word_after : (m : Module) (start : NamerNames) → start.keywords ≡ (wgsl_names m).keywords →
     (earlier : List (List ℕ)) (label : List ℕ) → IsWord (name_after start earlier label)
-is_word_after start same earlier label = record {
+is_word_after m start same earlier label = record {
   text = word_text (name_after start earlier label) (name_after_is_word start earlier label);
-  free = keeps_off_reserved start same earlier label;
+  free = keeps_off_reserved m start same earlier label;
 }
 
-pub is_identifier : (earlier : List (List ℕ)) (label : List ℕ) → IsIdentifier (name_after wgsl_names earlier label)
-is_identifier earlier label = record {
-  word = is_word_after wgsl_names refl earlier label;
-  own = keeps_off_builtin earlier label;
+pub is_identifier : (m : Module) (earlier : List (List ℕ)) (label : List ℕ) →
+    IsIdentifier (name_after (wgsl_names m) earlier label)
+is_identifier m earlier label = record {
+  word = is_word_after m (wgsl_names m) refl earlier label;
+  own = keeps_off_builtin m earlier label;
 }
 
 -- what is no word, or one of WGSL's own, is no identifier
@@ -217,41 +218,41 @@ numbered_distinct h k e = texts_distinct (nat_lt h (2 ^ 64)) (nat_lt k (2 ^ 64))
 
 -- ---- the items of a module
 module _ (m : Module) where
-  puts : PutsInto (λ _. None) (named_items wgsl_names (labelled_items wgsl_names m)) (module_names m)
+  puts : PutsInto (λ _. None) (named_items (wgsl_names m) (labelled_items (wgsl_names m) m)) (module_names m)
   unfolding module_names
   puts = record { finds = λ key. refl }
 
   -- an item's name is that of its label after those before it
-  pub name_there : (item : LabelledItem) (s : Stands (labelled_items wgsl_names m) item) →
+  pub name_there : (item : LabelledItem) (s : Stands (labelled_items (wgsl_names m) m) item) →
       module_names m item.0 ≡
-      Some (name_after wgsl_names (labels_of (take s.index (labelled_items wgsl_names m))) item.1)
-  name_there item s = put_at wgsl_names (λ _. None) (module_names m) (labelled_items wgsl_names m) puts
-      (items_apart wgsl_names m) s.index item s.there s.outside
+      Some (name_after (wgsl_names m) (labels_of (take s.index (labelled_items (wgsl_names m) m))) item.1)
+  name_there item s = put_at (wgsl_names m) (λ _. None) (module_names m) (labelled_items (wgsl_names m) m) puts
+      (items_apart (wgsl_names m) m) s.index item s.there s.outside
 
-  pub name_is : (item : LabelledItem) (s : Stands (labelled_items wgsl_names m) item) →
-      name_in (module_names m) item.0 ≡ name_after wgsl_names
-      (labels_of (take s.index (labelled_items wgsl_names m))) item.1
+  pub name_is : (item : LabelledItem) (s : Stands (labelled_items (wgsl_names m) m) item) →
+      name_in (module_names m) item.0 ≡ name_after (wgsl_names m)
+      (labels_of (take s.index (labelled_items (wgsl_names m) m))) item.1
   name_is item s = ap (λ o. unwrap_or o []) (name_there item s)
 
-  pub item_is_identifier : (item : LabelledItem) → Stands (labelled_items wgsl_names m) item →
+  pub item_is_identifier : (item : LabelledItem) → Stands (labelled_items (wgsl_names m) m) item →
       IsIdentifier (name_in (module_names m) item.0)
   item_is_identifier item s =
       subst IsIdentifier (sym (name_is item s))
-      (is_identifier (labels_of (take s.index (labelled_items wgsl_names m))) item.1)
+      (is_identifier m (labels_of (take s.index (labelled_items (wgsl_names m) m))) item.1)
 
-  pub item_not_numbered : (item : LabelledItem) (h : ℕ) → Stands (labelled_items wgsl_names m) item →
+  pub item_not_numbered : (item : LabelledItem) (h : ℕ) → Stands (labelled_items (wgsl_names m) m) item →
       name_in (module_names m) item.0 ≢ numbered_name h
   item_not_numbered item h s e =
-      let earlier = labels_of (take s.index (labelled_items wgsl_names m)) in
-      unnumbered (name_after wgsl_names earlier item.1) h (name_after_is_word wgsl_names earlier item.1)
-      (name_after_not_numbered wgsl_names earlier item.1 h) (sym (name_is item s) ∙ e)
+      let earlier = labels_of (take s.index (labelled_items (wgsl_names m) m)) in
+      unnumbered (name_after (wgsl_names m) earlier item.1) h (name_after_is_word (wgsl_names m) earlier item.1)
+      (name_after_not_numbered (wgsl_names m) earlier item.1 h) (sym (name_is item s) ∙ e)
 
-  pub items_tell : (a b : LabelledItem) → Stands (labelled_items wgsl_names m) a →
-      Stands (labelled_items wgsl_names m) b → name_in (module_names m) a.0 ≡ name_in (module_names m) b.0 → a ≡ b
+  pub items_tell : (a b : LabelledItem) → Stands (labelled_items (wgsl_names m) m) a →
+      Stands (labelled_items (wgsl_names m) m) b → name_in (module_names m) a.0 ≡ name_in (module_names m) b.0 → a ≡ b
   items_tell a b s t e =
-      let index = item_names_tell wgsl_names (labelled_items wgsl_names m) s.index t.index a b s.there t.there
+      let index = item_names_tell (wgsl_names m) (labelled_items (wgsl_names m) m) s.index t.index a b s.there t.there
       s.outside t.outside (sym (name_is a s) ∙ e ∙ name_is b t) in
-      ap (λ o. unwrap_or o a) (sym s.there ∙ ap (slice_get (labelled_items wgsl_names m)) index ∙ t.there)
+      ap (λ o. unwrap_or o a) (sym s.there ∙ ap (slice_get (labelled_items (wgsl_names m) m)) index ∙ t.there)
 
   -- the label of a function, or of an entry point
   abbrev pub function_label : ir_function.Function → FunctionType → List ℕ
@@ -270,49 +271,49 @@ module _ (m : Module) where
   local_item g l v = (local_key (function_type m g) l, label_or v.name (codes "local"))
 
   pub function_there : (g : ℕ) (f : ir_function.Function) → slice_get (all_functions m) g ≡ Some f →
-      Stands (labelled_items wgsl_names m) (function_item g f)
+      Stands (labelled_items (wgsl_names m) m) (function_item g f)
   function_there g f found = by (which_function m g f found)
     where
       stands : FunctionType → Type 0
-      stands ty = Stands (labelled_items wgsl_names m) (function_key ty, function_label f ty)
+      stands ty = Stands (labelled_items (wgsl_names m) m) (function_key ty, function_label f ty)
 
       by : IsNumbered m g f → stands (function_type m g)
-      by (OfFunction here ty) = subst stands (sym ty) (function_stands wgsl_names m g f here)
+      by (OfFunction here ty) = subst stands (sym ty) (function_stands (wgsl_names m) m g f here)
       by (OfEntryPoint j p at here same ty) =
           subst stands (sym ty)
-          (subst (λ label. Stands (labelled_items wgsl_names m) (key.EntryPoint j, label))
+          (subst (λ label. Stands (labelled_items (wgsl_names m) m) (key.EntryPoint j, label))
           (sym (ap (λ o. option_map_or (λ p. string_bytes p.name) o []) here))
-          (entry_point_stands wgsl_names m j p here))
+          (entry_point_stands (wgsl_names m) m j p here))
 
   pub argument_there : (g : ℕ) (f : ir_function.Function) (n : ℕ) (a : FunctionArgument) →
       slice_get (all_functions m) g ≡ Some f → slice_get f.arguments.items n ≡ Some a →
-      Stands (labelled_items wgsl_names m) (argument_item g n a)
+      Stands (labelled_items (wgsl_names m) m) (argument_item g n a)
   argument_there g f n a found there = by (which_function m g f found)
     where
       stands : FunctionType → Type 0
       stands ty =
-          Stands (labelled_items wgsl_names m) (argument_key ty n, label_or a.name (codes "param"))
+          Stands (labelled_items (wgsl_names m) m) (argument_key ty n, label_or a.name (codes "param"))
 
       by : IsNumbered m g f → stands (function_type m g)
       by (OfFunction here ty) =
-          subst stands (sym ty) (argument_stands wgsl_names m g f n a here there)
+          subst stands (sym ty) (argument_stands (wgsl_names m) m g f n a here there)
       by (OfEntryPoint j p at here same ty) =
-          subst stands (sym ty) (entry_argument_stands wgsl_names m j p n a here
+          subst stands (sym ty) (entry_argument_stands (wgsl_names m) m j p n a here
           (ap (λ f. slice_get f.arguments.items n) same ∙ there))
 
   pub local_there : (g : ℕ) (f : ir_function.Function) (l : ℕ) (v : LocalVariable) →
       slice_get (all_functions m) g ≡ Some f → slice_get f.local_variables l ≡ Some v →
-      Stands (labelled_items wgsl_names m) (local_item g l v)
+      Stands (labelled_items (wgsl_names m) m) (local_item g l v)
   local_there g f l v found there = by (which_function m g f found)
     where
       stands : FunctionType → Type 0
       stands ty =
-          Stands (labelled_items wgsl_names m) (local_key ty l, label_or v.name (codes "local"))
+          Stands (labelled_items (wgsl_names m) m) (local_key ty l, label_or v.name (codes "local"))
 
       by : IsNumbered m g f → stands (function_type m g)
-      by (OfFunction here ty) = subst stands (sym ty) (local_stands wgsl_names m g f l v here there)
+      by (OfFunction here ty) = subst stands (sym ty) (local_stands (wgsl_names m) m g f l v here there)
       by (OfEntryPoint j p at here same ty) =
-          subst stands (sym ty) (entry_local_stands wgsl_names m j p l v here
+          subst stands (sym ty) (entry_local_stands (wgsl_names m) m j p l v here
           (ap (λ f. slice_get f.local_variables l) same ∙ there))
 
   -- functions with one name have one number

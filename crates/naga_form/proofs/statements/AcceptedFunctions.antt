@@ -37,6 +37,7 @@ use Rattle.module_semantics.specs.acceptance.Initialisers.{locals_are_sound}
 use Rattle.module_semantics.specs.acceptance.Soundness.{expressions_are_sound, module_is_sound}
 use Rattle.module_semantics.specs.acceptance.Soundness.{function_is_sound, entry_point_is_sound}
 use Rattle.module_semantics.specs.acceptance.StatementsFit.{body_is_sound}
+use Rattle.module_semantics.proofs.EntryPointRanges.{EntryPointFits, entry_point_fits}
 use Rattle.module_semantics.proofs.Lists.{list_all_at, numbered_at}
 use Rattle.naga_naming.proofs.Refusal.{element}
 use Rattle.naga_form.proofs.declarations.AcceptedGroups.{IsSoundGroup, functions_are}
@@ -159,41 +160,19 @@ module _ (m : Module) (info : ModuleInfo) (accepted : IsTrue (is_accepted m info
       numbered_at (function_in_range m) 0 m.functions k f functions.0 here
 
   -- all that an entry point names is there
-  pub entry_point_is_in_range : (j : ℕ) (p : EntryPoint) → slice_get m.entry_points.items j ≡ Some p →
+  entry_point_is_in_range : (j : ℕ) (p : EntryPoint) → slice_get m.entry_points.items j ≡ Some p →
       entry_point_in_range m p ≡ true
   entry_point_is_in_range j p here =
       let range = and_parts _ _ ranges_parts.1 in let functions = and_parts _ _ range.1 in
       list_all_at (entry_point_in_range m) m.entry_points.items j p functions.1 here
 
-  -- its sizes of a workgroup have 32 bits, along three axes
   pub entry_point_parts : (j : ℕ) (p : EntryPoint) → slice_get m.entry_points.items j ≡ Some p →
-      (workgroup_fits_32_bits p.workgroup_size ≡ true) ×
-      (function_in_range m (length m.functions) p.function ≡ true)
-  entry_point_parts j p here =
-      let own = entry_point_is_in_range j p here in
-      let count = length m.global_variables in
-      let one = and_parts (is_below count (option_map (λ k. k.output_variable) p.mesh_info)) _ own in
-      let two = and_parts (is_below count p.task_payload) _ one.1 in
-      let three = and_parts (is_below count p.incoming_ray_payload) _ two.1 in
-      and_parts (workgroup_fits_32_bits p.workgroup_size)
-      (function_in_range m (length m.functions) p.function) three.1
+      EntryPointFits m p
+  entry_point_parts j p here = entry_point_fits m p (entry_point_is_in_range j p here)
 
   entry_point_range : (j : ℕ) (p : EntryPoint) → slice_get m.entry_points.items j ≡ Some p →
       function_in_range m (length m.functions) p.function ≡ true
-  entry_point_range j p here = (entry_point_parts j p here).1
-
-  -- the variables that an entry point names are there: a mesh's output and payloads
-  pub stage_variables_within : (j : ℕ) (p : EntryPoint) → slice_get m.entry_points.items j ≡ Some p →
-      (is_below (length m.global_variables) (option_map (λ k. k.output_variable) p.mesh_info) ≡ true)
-      × (is_below (length m.global_variables) p.task_payload ≡ true)
-      × (is_below (length m.global_variables) p.incoming_ray_payload ≡ true)
-  stage_variables_within j p here =
-      let own = entry_point_is_in_range j p here in
-      let count = length m.global_variables in
-      let one = and_parts (is_below count (option_map (λ k. k.output_variable) p.mesh_info)) _ own in
-      let two = and_parts (is_below count p.task_payload) _ one.1 in
-      let three = and_parts (is_below count p.incoming_ray_payload) _ two.1 in
-      (one.0, two.0, three.0)
+  entry_point_range j p here = (entry_point_parts j p here).function
 
   pub of_function : (k : ℕ) (f : Function) (es : List ExpressionInfo) →
       slice_get m.functions k ≡ Some f → slice_get info.functions.items k ≡ Some es →

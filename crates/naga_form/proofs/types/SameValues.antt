@@ -48,6 +48,7 @@ use Rattle.naga_ir.specs.declared.image.ImageClass.TheVariants as class
 use Rattle.naga_ir.specs.declared.image.ImageDimension.{ImageDimension}
 use Rattle.module_semantics.specs.acceptance.InfoSizes.{type_is_fit, resolution_is_fit}
 use Rattle.module_semantics.specs.Names.{TypesAreDistinguished, constant_name, global_name}
+use Rattle.module_semantics.specs.Names.{override_name}
 use Rattle.module_semantics.specs.Names.{module_names, name_in, wgsl_names}
 use Rattle.module_semantics.specs.Types.{type_of_values, word_of_values, values_of, scalar_values}
 use Rattle.module_semantics.specs.Types.{type_names, spelled_resolution}
@@ -162,31 +163,33 @@ module _ (m : Module) where
   there (x ∷ xs) zero lt = (x, refl)
   there (x ∷ xs) (suc i) lt = there xs i (omega (arith, lt))
 
-  type_item : (h : ℕ) → h < length m.types → (label : List ℕ) × Stands (labelled_items wgsl_names m)
+  type_item : (h : ℕ) → h < length m.types → (label : List ℕ) × Stands (labelled_items (wgsl_names m) m)
       (key.Type_ h, label)
-  type_item h lt = let k = there m.types h lt in (_, type_stands wgsl_names m h k.0 k.1)
+  type_item h lt = let k = there m.types h lt in (_, type_stands (wgsl_names m) m h k.0 k.1)
 
-  override_item : (o : ℕ) → o < length m.overrides → (label : List ℕ) × Stands (labelled_items wgsl_names m)
+  override_item : (o : ℕ) → o < length m.overrides → (label : List ℕ) × Stands (labelled_items (wgsl_names m) m)
       (key.Override o, label)
-  override_item o lt = let k = there m.overrides o lt in (_, override_stands wgsl_names m o k.0 k.1)
+  override_item o lt = let k = there m.overrides o lt in (_, override_stands (wgsl_names m) m o k.0 k.1)
 
   struct_identifier : (h : ℕ) → h < length m.types → IsIdentifier ((type_names m).struct_name h)
   struct_identifier h lt = let a = type_item h lt in
       subst IsIdentifier (sym (or_nothing (module_names m (key.Type_ h)))) (item_is_identifier m (key.Type_ h, a.0) a.1)
 
+  pub override_is_identifier : (o : ℕ) → o < length m.overrides → IsIdentifier (override_name (module_names m) o)
+  override_is_identifier o lt = let a = override_item o lt in item_is_identifier m (key.Override o, a.0) a.1
+
   pub override_identifier : (o : ℕ) → o < length m.overrides → IsIdentifier ((type_names m).override_name o)
-  override_identifier o lt = let a = override_item o lt in
-      subst IsIdentifier (sym (or_nothing (module_names m (key.Override o))))
-      (item_is_identifier m (key.Override o, a.0) a.1)
+  override_identifier o lt =
+      subst IsIdentifier (sym (or_nothing (module_names m (key.Override o)))) (override_is_identifier o lt)
 
   -- and constants and variables
   pub constant_identifier : (c : ℕ) → c < length m.constants → IsIdentifier (constant_name (module_names m) c)
   constant_identifier c lt = let k = there m.constants c lt in
-      item_is_identifier m (key.Constant c, _) (constant_stands wgsl_names m c k.0 k.1)
+      item_is_identifier m (key.Constant c, _) (constant_stands (wgsl_names m) m c k.0 k.1)
 
   pub global_identifier : (v : ℕ) → v < length m.global_variables → IsIdentifier (global_name (module_names m) v)
   global_identifier v lt = let k = there m.global_variables v lt in
-      item_is_identifier m (key.GlobalVariable v, _) (global_stands wgsl_names m v k.0 k.1)
+      item_is_identifier m (key.GlobalVariable v, _) (global_stands (wgsl_names m) m v k.0 k.1)
 
 module _ (m : Module) (types : TypesAreFit m) where
   size_is : (n : ArraySize) → LengthIsCounted n → size_within (length m.overrides) n ≡ true →

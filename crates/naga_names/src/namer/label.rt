@@ -1,7 +1,7 @@
 //! The stem of a label: the part of an identifier that comes from the label alone.
 ghost use Rattle.std.specs.Prelude.{◌≡◌, ℕ, ◌<◌, length, false, true, slice_index, codes, ◌⊎◌};
 ghost use Rattle.std.specs.Prelude.{IfSome, IsTrue, List, ◌∷◌, [], ◌++◌, ◌||◌, ◌==◌, map, IfOk};
-ghost use Rattle.std.specs.Prelude.{OnOk, string_bytes};
+ghost use Rattle.std.specs.Prelude.{OnOk, not, string_bytes};
 ghost use Rattle.std.specs.List.{list_any, starts_with};
 ghost use Rattle.std.specs.Bool.{nat_eq};
 ghost use Rattle.std.specs.Char.{is_ascii_alphanumeric};
@@ -10,7 +10,9 @@ ghost use Rattle.naga_naming.specs.Label.{is_numeric, is_mark, is_foreign, by_nu
 ghost use Rattle.naga_naming.specs.Label.{after_numerics, ascii_of, with_separator};
 ghost use Rattle.naga_naming.specs.Label.{without_last_separators, or_unnamed, stem_of};
 ghost use Rattle.naga_naming.specs.Label.{ends_separated, IsPlain, StaysSame};
-ghost use Rattle.naga_naming.specs.Naming.{ends_in_digit};
+ghost use Rattle.naga_keywords.specs.Plain.{has_plain_end};
+ghost use Rattle.naga_naming.specs.Naming.{ends_in_digit, has_bad_end, is_numbered};
+ghost use Rattle.naga_names.specs.Ends.{IsFrontOfDigits};
 
 use std::alloc::{AllocError, Global};
 use std::fmt::Write;
@@ -111,14 +113,48 @@ fn finished(mut text: String) -> Result<String, AllocError>
     Ok(text)
 }
 
+/// Whether the stem ends in digits that its first name may not end in.
+pub fn has_bad_end(keeps_digits: bool, stem: &str) -> bool
+    ensures { result ≡ has_bad_end keeps_digits stem.now }
+{
+    ends_in_digit(stem) && (!keeps_digits || digits_are_separated(stem.as_bytes()))
+}
+
 /// Whether the text, which isn't empty, ends in an ASCII digit.
-pub fn ends_in_digit(text: &str) -> bool
+fn ends_in_digit(text: &str) -> bool
     ensures { result ≡ ends_in_digit text.now }
 {
     match text.as_bytes().last() {
         Some(byte) => byte.is_ascii_digit(),
         None => false,
     }
+}
+
+/// Whether the digits at the end of the text come after a `_`, or after `_e` alone.
+fn digits_are_separated(text: &[u8]) -> bool
+    ensures { result ≡ (not (has_plain_end text.now) || is_numbered text.now) }
+{
+    let front = without_last_digits(text);
+    ends_separated(front) || front == b"_e"
+}
+
+/// Whether the text ends in a `_`.
+fn ends_separated(text: &[u8]) -> bool
+    ensures { result ≡ ends_separated text.now }
+{
+    text.last() == Some(&b'_')
+}
+
+/// The text without the ASCII digits at its end.
+fn without_last_digits(text: &[u8]) -> &[u8]
+    ensures digits { IsFrontOfDigits text.now result.now }
+    ensures all { ends_in_digit result.now ≡ false }
+{
+    let mut front = text;
+    while let [shorter @ .., b'0'..=b'9'] = front {
+        front = shorter;
+    }
+    front
 }
 
 /// The label's characters, from the first one on that is not numeric, each as an identifier can

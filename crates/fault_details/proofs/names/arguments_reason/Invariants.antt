@@ -1,6 +1,6 @@
 use Rattle.std.proofs.Common.{◌≡◌, drop, []}
 use Rattle.fault_details.specs.Demands.{OfEach, there, unmet}
-use Rattle.fault_details.specs.declared.words.ListName.TheVariants.{Types}
+use Rattle.module_semantics.specs.declared.named.ListName.TheVariants.{Types}
 use Rattle.fault_details.proofs.names.arguments_reason.Given as goal
 
 abbrev pub invariant-loop-argument : goal.invariant-loop-argument

@@ -1,7 +1,7 @@
 use Rattle.std.proofs.Common.{◌≡◌, []}
 use Rattle.indexmap.specs.IndexMap.{keys}
 use Rattle.fault_details.specs.Demands.{OfEach, there, unmet}
-use Rattle.fault_details.specs.declared.words.ListName.TheVariants.{Expressions}
+use Rattle.module_semantics.specs.declared.named.ListName.TheVariants.{Expressions}
 use Rattle.fault_details.proofs.names.named_reason.Given as goal
 
 abbrev pub invariant-loop-handle : goal.invariant-loop-handle

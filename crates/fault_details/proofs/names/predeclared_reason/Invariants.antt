@@ -1,7 +1,7 @@
 use Rattle.std.proofs.Common.{◌≡◌, []}
 use Rattle.indexmap.specs.IndexMap.{values}
 use Rattle.fault_details.specs.Demands.{OfEach, there, unmet}
-use Rattle.fault_details.specs.declared.words.ListName.TheVariants.{Types}
+use Rattle.module_semantics.specs.declared.named.ListName.TheVariants.{Types}
 use Rattle.fault_details.proofs.names.predeclared_reason.Given as goal
 
 abbrev pub invariant-loop-handle : goal.invariant-loop-handle

@@ -4,7 +4,7 @@ use Rattle.indexmap.specs.IndexMap.{values}
 use Rattle.fault_details.specs.Demands.{OfEach, Reason, there, unmet}
 use Rattle.fault_details.specs.Reasons.{texture_demands}
 use Rattle.fault_details.specs.Shown.{shown}
-use Rattle.fault_details.specs.declared.words.ListName.TheVariants as list
+use Rattle.module_semantics.specs.declared.named.ListName.TheVariants as list
 use Rattle.fault_details.proofs.names.special_reason.Goals as goal
 
 pub returns-in-None : goal.returns-in-None

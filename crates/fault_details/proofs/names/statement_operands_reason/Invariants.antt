@@ -2,7 +2,7 @@ use Rattle.std.proofs.Common.{◌≡◌, []}
 use Rattle.naga_ir.specs.Operands.{own_operands}
 use Rattle.naga_ir.specs.StatementViews.{tree_of}
 use Rattle.fault_details.specs.Demands.{OfEach, there, unmet}
-use Rattle.fault_details.specs.declared.words.ListName.TheVariants.{Expressions}
+use Rattle.module_semantics.specs.declared.named.ListName.TheVariants.{Expressions}
 use Rattle.fault_details.proofs.names.statement_operands_reason.Given as goal
 
 abbrev pub invariant-loop-operand : goal.invariant-loop-operand

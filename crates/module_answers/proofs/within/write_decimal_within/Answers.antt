@@ -3,9 +3,11 @@ use Rattle.std.proofs.Common.{ap, is_ok, length, string_bytes, subst, sym}
 use Rattle.naga_acceptance.specs.FirstFaults.{IsFirstFault}
 use Rattle.naga_wgsl_out.specs.Checked.{IsCounted}
 use Rattle.naga_wgsl_out.specs.Within.{unfailed}
-use Rattle.decimal_floats.specs.Decimals.{IsDecimalModule}
+use Rattle.decimal_floats.specs.Decimals.{IsDecimalModule, keeping_digits}
+use Rattle.module_answers.specs.Wants.{IsDecimalUnlessWanting}
 use Rattle.module_answers.specs.WriteOutcomes.{AnswersWriting}
 use Rattle.module_answers.proofs.Bounded.{as_kept, is_too_long}
+use Rattle.module_answers.proofs.Wants.{decimal_unfailed}
 use Rattle.module_answers.proofs.within.write_decimal_within.Goals as goal
 
 pub returns-in-Some-clause-accepted : goal.returns-in-Some-clause-accepted
@@ -13,8 +15,17 @@ returns-in-Some-clause-accepted c = sym c.write_decimal.ensures.accepted ∙ ap 
 
 pub returns-in-Some-clause-decimal : goal.returns-in-Some-clause-decimal
 returns-in-Some-clause-decimal c =
-    subst (λ r. IfOk r (λ _. IsDecimalModule c.args.«module».now c.write_decimal.new.«module»)) c.in-Ok.is
+    subst (λ r. IfOk r (λ _. IsDecimalModule (keeping_digits c.args.«module».now) c.write_decimal.new.«module»)) c.in-Ok.is
     c.write_decimal.ensures.decimal
+
+pub returns-in-Some-clause-complete : goal.returns-in-Some-clause-complete
+returns-in-Some-clause-complete c =
+    let m = c.write_decimal.new.«module» in
+    let w = c.in-Ok.written in
+    subst (λ a. IsDecimalUnlessWanting a m)
+    (sym (subst (λ o. IfSome o (λ v. v.answer ≡ unfailed w.answer)) c.in-Some.is c.within_its_limit.ensures.answer))
+    (decimal_unfailed w.answer m
+    (subst (λ r. IfOk r (λ w. IsDecimalUnlessWanting w.answer m)) c.in-Ok.is c.write_decimal.ensures.complete))
 
 pub returns-in-Some-clause-counted : goal.returns-in-Some-clause-counted
 returns-in-Some-clause-counted c =
@@ -63,7 +74,7 @@ returns-in-None-clause-unwritten c =
 
 pub returns-in-None-clause-too_long : goal.returns-in-None-clause-too_long
 returns-in-None-clause-too_long c =
-    λ _. subst (λ r. IfOk r (λ _. IsDecimalModule c.args.«module».now c.write_decimal.new.«module»)) c.in-Ok.is
+    λ _. subst (λ r. IfOk r (λ _. IsDecimalModule (keeping_digits c.args.«module».now) c.write_decimal.new.«module»)) c.in-Ok.is
     c.write_decimal.ensures.decimal
 
 pub returns-in-Err-clause-unwritten : goal.returns-in-Err-clause-unwritten

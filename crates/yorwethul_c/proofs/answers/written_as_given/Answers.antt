@@ -5,7 +5,7 @@ use Rattle.module_answers.specs.WriteOutcomes.{AnswersWriting}
 use Rattle.module_semantics.specs.acceptance.Accepted.{is_accepted}
 use Rattle.naga_wgsl_out.specs.Checked.{IsCounted}
 use Rattle.yorwethul_c.specs.Answers.{longest_text}
-use Rattle.yorwethul_c.proofs.Told.{as_given, at_most_seven, not_written, wrote}
+use Rattle.yorwethul_c.proofs.Told.{as_given, at_most_seven, not_decimal, not_written, wrote}
 use Rattle.yorwethul_c.proofs.answers.written_as_given.Goals as goal
 
 pub returns-in-Err : goal.returns-in-Err
@@ -17,8 +17,8 @@ returns-in-Err c =
     let is = subst
     (λ r. IfErr r (IsUnwritten writer longest_text given m
     c.args.shader.now.info info)) c.in-Err.is c.write_within.ensures.unwritten in
-    λ json. not_written json c.args.flags writer c.args.shader.now.holder given m c.args.shader.now.info info _ _ _
-    (at_most_seven c.args.flags c.requires.known) c.writer_flags.ensures c.requires.read
+    λ json was_read. not_written json c.args.flags writer c.args.shader.now.holder given m c.args.shader.now.info info _ _ _
+    (at_most_seven c.args.flags c.requires.known) c.writer_flags.ensures was_read
     (λ _. as_given c.args.flags given c.requires.known) is c.not_written.ensures
 
 pub returns-in-Ok : goal.returns-in-Ok
@@ -37,7 +37,7 @@ returns-in-Ok c =
     c.in-Ok.is c.write_within.ensures.written in
     let within = subst (λ r. IfOk r (λ w. length (string_bytes w.sink) ≤ longest_text)) c.in-Ok.is
     c.write_within.ensures.within in
-    λ json. wrote json c.args.flags writer c.args.shader.now.holder given m read info (string_bytes w.sink)
-    (at_most_seven c.args.flags c.requires.known) c.writer_flags.ensures c.requires.read
+    λ json was_read. wrote json c.args.flags writer c.args.shader.now.holder given m read info (string_bytes w.sink)
+    (at_most_seven c.args.flags c.requires.known) c.writer_flags.ensures was_read
     (as_given c.args.flags given c.requires.known) accepted counted w.answer w.refusal _ _
-    answers.faithful answers.text answers.refusal within c.told_written.ensures
+    (not_decimal c.args.flags c.requires.known) answers.faithful answers.text answers.refusal within c.told_written.ensures

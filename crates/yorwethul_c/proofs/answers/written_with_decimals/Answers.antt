@@ -1,11 +1,12 @@
 use Rattle.std.proofs.Common.{◌≡◌, IfErr, IfOk, length, subst, string_bytes, ◌≤◌, []}
 use Rattle.std.specs.Prelude.{IsTrue}
+use Rattle.module_answers.specs.Wants.{IsDecimalUnlessWanting}
 use Rattle.module_answers.specs.Within.{IsUnwritten}
 use Rattle.module_answers.specs.WriteOutcomes.{AnswersWriting}
 use Rattle.module_answers.specs.declared.within.NoOutcome.TheVariants as unwritten
 use Rattle.module_semantics.specs.acceptance.Accepted.{is_accepted}
 use Rattle.naga_wgsl_out.specs.Checked.{IsCounted}
-use Rattle.decimal_floats.specs.Decimals.{IsDecimalModule}
+use Rattle.decimal_floats.specs.Decimals.{IsDecimalModule, keeping_digits}
 use Rattle.yorwethul_c.specs.Answers.{longest_text}
 use Rattle.yorwethul_c.proofs.Told.{not_written, with_decimal_floats, wrote}
 use Rattle.yorwethul_c.proofs.answers.written_with_decimals.Goals as goal
@@ -19,10 +20,10 @@ returns-in-Err c =
     let is = subst
     (λ r. IfErr r (IsUnwritten writer longest_text given m
     c.args.shader.now.info info)) c.in-Err.is c.write_decimal_within.ensures.unwritten in
-    let too_long = subst (λ r. IfErr r (λ e. e ≡ unwritten.TooLong → IsDecimalModule given m)) c.in-Err.is
+    let too_long = subst (λ r. IfErr r (λ e. e ≡ unwritten.TooLong → IsDecimalModule (keeping_digits given) m)) c.in-Err.is
     c.write_decimal_within.ensures.too_long in
-    λ json. not_written json c.args.flags writer c.args.shader.now.holder given m c.args.shader.now.info info _ _ _
-    c.requires.known c.writer_flags.ensures c.requires.read
+    λ json was_read. not_written json c.args.flags writer c.args.shader.now.holder given m c.args.shader.now.info info _ _ _
+    c.requires.known c.writer_flags.ensures was_read
     (λ e. with_decimal_floats c.args.flags given m c.requires.decimal (too_long e)) is c.not_written.ensures
 
 pub returns-in-Ok : goal.returns-in-Ok
@@ -36,15 +37,17 @@ returns-in-Ok c =
     let accepted =
     subst (λ r. IfOk r (λ _. IsTrue (is_accepted given read))) c.in-Ok.is c.write_decimal_within.ensures.accepted in
     let counted = subst (λ r. IfOk r (λ _. IsCounted m read info)) c.in-Ok.is c.write_decimal_within.ensures.counted in
-    let decimal = subst (λ r. IfOk r (λ _. IsDecimalModule given m)) c.in-Ok.is
+    let decimal = subst (λ r. IfOk r (λ _. IsDecimalModule (keeping_digits given) m)) c.in-Ok.is
     c.write_decimal_within.ensures.decimal in
+    let complete =
+    subst (λ r. IfOk r (λ w. IsDecimalUnlessWanting w.answer m)) c.in-Ok.is c.write_decimal_within.ensures.complete in
     let answers =
     subst (λ r. IfOk r (λ w. AnswersWriting writer m info w.answer w.refusal [] (string_bytes w.sink) 0 0))
     c.in-Ok.is c.write_decimal_within.ensures.written in
     let within = subst (λ r. IfOk r (λ w. length (string_bytes w.sink) ≤ longest_text)) c.in-Ok.is
     c.write_decimal_within.ensures.within in
-    λ json. wrote json c.args.flags writer c.args.shader.now.holder given m read info (string_bytes w.sink)
-    c.requires.known c.writer_flags.ensures c.requires.read
+    λ json was_read. wrote json c.args.flags writer c.args.shader.now.holder given m read info (string_bytes w.sink)
+    c.requires.known c.writer_flags.ensures was_read
     (with_decimal_floats c.args.flags given m c.requires.decimal decimal)
-    accepted counted w.answer w.refusal _ _ answers.faithful answers.text answers.refusal within
+    accepted counted w.answer w.refusal _ _ (λ _. complete) answers.faithful answers.text answers.refusal within
     c.told_written.ensures

@@ -45,7 +45,7 @@ pub returns-in-Ok-end : goal.returns-in-Ok-end
 returns-in-Ok-end c =
     let same = c.new-naming.ensures.namer
     ∙ starts c.args.reserved_keywords c.args.builtin_identifiers
-    c.args.keywords_case_insensitive c.new-uses.result c.in-Ok.prefixes.items
+    c.args.keywords_case_insensitive c.args.module.now.keeps_digits c.new-uses.result c.in-Ok.prefixes.items
     c.args.reserved_prefixes.now c.new-uses.ensures c.in-Ok.ensures.items in
     named _ c.args.module.now _ _ _
     (all_named _ _ _ _ same refl c.new-naming.ensures.refusal c.name_items.ensures _
@@ -55,7 +55,7 @@ pub returns-in-Err-end : goal.returns-in-Err-end
 returns-in-Err-end c =
     let same = c.new-naming.ensures.namer
     ∙ starts c.args.reserved_keywords c.args.builtin_identifiers
-    c.args.keywords_case_insensitive c.new-uses.result c.in-Ok.prefixes.items
+    c.args.keywords_case_insensitive c.args.module.now.keeps_digits c.new-uses.result c.in-Ok.prefixes.items
     c.args.reserved_prefixes.now c.new-uses.ensures c.in-Ok.ensures.items in
     let some = some_named _ _ _ _ same refl c.new-naming.ensures.refusal c.name_items.ensures _
     c.in-Err-end.ensures.err in

@@ -1,4 +1,4 @@
-use Rattle.std.proofs.Common.{◌≡◌, ◌∙◌, List, ℕ, ap, sym}
+use Rattle.std.proofs.Common.{◌≡◌, ◌∙◌, List, ℕ, ap, refl, sym}
 use Rattle.module_semantics.specs.Names.{module_names}
 use Rattle.naga_form.specs.Attributes.{stage_attributes}
 use Rattle.naga_ir.specs.declared.module.EntryPoint.{EntryPoint}
@@ -6,7 +6,7 @@ use Rattle.naga_ir.specs.declared.module.Module.{Module}
 use Rattle.naga_ir.specs.declared.module.ShaderStage.{ShaderStage}
 use Rattle.naga_words.proofs.Writing.{writes_as}
 use Rattle.wgsl_text.specs.Attributes.{AnyHit, ClosestHit, Fragment, Miss, RayGeneration, Vertex}
-use Rattle.naga_wgsl_shared.proofs.StageRows.{compute_is, hit_is, plain_row}
+use Rattle.naga_wgsl_shared.proofs.StageRows.{hit_is, plain_row}
 use Rattle.naga_wgsl_shared.specs.Attributes.{attributes_text}
 use Rattle.naga_wgsl_shared.proofs.module_text.ModuleText.write_stage_attributes.Goals as goal
 
@@ -39,7 +39,7 @@ pub returns-in-Compute : goal.returns-in-Compute
 returns-in-Compute g c =
     writes_as
     (own c.args.self.now.shader.now c.args.entry_point.now _ _ c.in-Compute.is
-    (compute_is c.args.entry_point.now.workgroup_size))
+    refl)
     c.write_compute.ensures
 
 pub returns-in-AnyHit : goal.returns-in-AnyHit

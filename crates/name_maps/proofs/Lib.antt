@@ -1,0 +1,5 @@
+pub mod FewMembers
+pub mod MadeRows
+mod NameMapExamples
+pub mod NoFloats
+pub mod SameMaps
