@@ -1,5 +1,5 @@
 -- The digits that a text ends in, and what stands before them.
-use Rattle.std.proofs.Common.{◌≡◌, ℕ, Bool, false, not, ◌||◌, List, codes, sym, ap, ◌∙◌}
+use Rattle.std.proofs.Common.{◌≡◌, ℕ, false, not, ◌||◌, List, codes, sym, ap, ◌∙◌}
 use Rattle.std.specs.Str.{bytes_eq}
 use Rattle.naga_keywords.specs.Plain.{has_plain_end}
 use Rattle.naga_naming.specs.Label.{ends_separated}

@@ -4,11 +4,13 @@
 -- x, y and z are the parts of a workgroup's size.
 use Rattle.std.proofs.Common.{◌≡◌, ◌∙◌, ◌++◌, ℕ, List, [], ◌∷◌, append_assoc, ap, arith, codes}
 use Rattle.std.proofs.Common.{decimal, get_or, length, refl, slice_get, sym}
-use Rattle.std.specs.Prelude.{◌&&◌, Option, Some, None, IsTrue}
+use Rattle.std.specs.Prelude.{◌&&◌, ◌==◌, ◌<◌, true, Option, Some, None, IsTrue}
 use Rattle.std.specs.List.{list_all}
 use Rattle.std.specs.Option.{option_map}
 use Rattle.std.proofs.lemmas.Bool.{and_parts}
+use Rattle.std.proofs.lemmas.Bool.Decides.{nat_tests}
 use Rattle.std.proofs.lemmas.List.{append-nil}
+use Rattle.std.proofs.lemmas.Option.{slice_get-get_or}
 use Rattle.naga_info.specs.declared.info.ModuleInfo.{ModuleInfo}
 use Rattle.naga_ir.specs.declared.module.EntryPoint.{EntryPoint}
 use Rattle.naga_ir.specs.declared.module.MeshStageInfo.{MeshStageInfo}
@@ -40,6 +42,9 @@ use Rattle.naga_wgsl_shared.specs.Names.{name_of_override}
 use Rattle.naga_wgsl_shared.specs.Stages.{StageIsThere, hit_text, output_text, own_size_text}
 use Rattle.naga_wgsl_shared.specs.Stages.{part_text, size_text, stage_text, variable_text}
 
+is_three : (n : ℕ) → (n == 3) ≡ true → n ≡ 3
+is_three n e = grind (arith, nat_tests)
+
 -- what an entry point of an accepted module names is there
 pub stage_is_there : (m : Module) (info : ModuleInfo) → IsTrue (is_accepted m info) → (i : ℕ)
     (e : EntryPoint) → slice_get m.entry_points.items i ≡ Some e → StageIsThere m e
@@ -55,7 +60,16 @@ stage_is_there m info accepted i e at =
     (list_all (entry_point_in_range m) m.entry_points.items) declared.1 in
     let own = list_all_at (entry_point_in_range m) m.entry_points.items i e points.1 at in
     let fits = entry_point_fits m e own in
-    record { output = fits.output; payload = fits.payload; incoming = fits.incoming; overrides = fits.overrides }
+    let sizes = and_parts (length e.workgroup_size == 3) _ fits.sizes in
+    let overrides = and_parts (length e.workgroup_size_overrides == 3) _ sizes.1 in
+    record {
+      output = fits.output;
+      payload = fits.payload;
+      incoming = fits.incoming;
+      overrides = fits.overrides;
+      axes = is_three (length e.workgroup_size) sizes.0;
+      override_axes = is_three (length e.workgroup_size_overrides) overrides.0;
+    }
 
 pub stage_row : (m : Module) (e : EntryPoint) →
     stage_text m e ≡
@@ -104,37 +118,40 @@ size_is x y z =
     (sym (append_assoc (part_text x) (codes ", ") rest)
     ∙ ap (λ t. (part_text x ++ codes ", ") ++ t) (sym (append_assoc (part_text y) (codes ", ") last)))
 
-three : {A : Type 0} (sizes : List A) (d : A) → length sizes ≡ 3 →
-    sizes ≡ get_or sizes 0 d ∷ get_or sizes 1 d ∷ get_or sizes 2 d ∷ []
-three [] d is = absurd (omega (arith, is))
-three (x ∷ []) d is = absurd (omega (arith, is))
-three (x ∷ y ∷ []) d is = absurd (omega (arith, is))
-three (x ∷ y ∷ z ∷ []) d is = refl
-three (x ∷ y ∷ z ∷ w ∷ more) d is = absurd (omega (arith, is))
+-- three items, each by itself, whatever stands for one that is not there
+three : {A : Type 0} (xs : List A) (a b c : A) → length xs ≡ 3 →
+    xs ≡ get_or xs 0 a ∷ get_or xs 1 b ∷ get_or xs 2 c ∷ []
+three [] a b c is = absurd (omega (arith, is))
+three (x ∷ []) a b c is = absurd (omega (arith, is))
+three (x ∷ y ∷ []) a b c is = absurd (omega (arith, is))
+three (x ∷ y ∷ z ∷ []) a b c is = refl
+three (x ∷ y ∷ z ∷ w ∷ more) a b c is = absurd (omega (arith, is))
 
 -- from its parts, along three axes
-pub sizes_row : (names : NameMap) (sizes : List ℕ) (overrides : List (Option ℕ)) (d : ℕ) (o : Option ℕ) →
+pub sizes_row : (names : NameMap) (sizes : List ℕ) (overrides : List (Option ℕ)) (d : ℕ) (a b c : Option ℕ) →
     length sizes ≡ 3 → length overrides ≡ 3 →
     joined_texts (codes "@workgroup_size(")
-    (joined_texts (part_text (size_part names (get_or sizes 0 d) (get_or overrides 0 o)) ++ codes ", ")
-    (joined_texts (part_text (size_part names (get_or sizes 1 d) (get_or overrides 1 o)) ++ codes ", ")
-    (part_text (size_part names (get_or sizes 2 d) (get_or overrides 2 o)) ++ codes ") ")))
+    (joined_texts (part_text (size_part names (get_or sizes 0 d) (get_or overrides 0 a)) ++ codes ", ")
+    (joined_texts (part_text (size_part names (get_or sizes 1 d) (get_or overrides 1 b)) ++ codes ", ")
+    (part_text (size_part names (get_or sizes 2 d) (get_or overrides 2 c)) ++ codes ") ")))
     ≡ attributes_text (size_attributes (size_parts_of names sizes overrides))
-sizes_row names sizes overrides d o three_sizes three_overrides =
-    let part = λ (axis : ℕ). size_part names (get_or sizes axis d) (get_or overrides axis o) in
-    sym (size_parts_row (part 0) (part 1) (part 2))
-    ∙ (sym (size_is (part 0) (part 1) (part 2))
+sizes_row names sizes overrides d a b c three_sizes three_overrides =
+    let x = size_part names (get_or sizes 0 d) (get_or overrides 0 a) in
+    let y = size_part names (get_or sizes 1 d) (get_or overrides 1 b) in
+    let z = size_part names (get_or sizes 2 d) (get_or overrides 2 c) in
+    sym (size_parts_row x y z)
+    ∙ (sym (size_is x y z)
     ∙ (λ i. attributes_text
     (size_attributes
-    (size_parts_of names (sym (three sizes d three_sizes) i) (sym (three overrides o three_overrides) i)))))
+    (size_parts_of names (sym (three sizes d d d three_sizes) i) (sym (three overrides a b c three_overrides) i)))))
 
 -- each of three overrides is there
 pub setting_fits : (count : ℕ) (overrides : List (Option ℕ)) (o : Option ℕ) → length overrides ≡ 3 →
     list_all (is_below count) overrides ≡ true → (axis : ℕ) → axis < 3 →
     is_below count (get_or overrides axis o) ≡ true
-setting_fits count overrides o three fit axis below =
+setting_fits count overrides o is fit axis below =
     list_all_at (is_below count) overrides axis (get_or overrides axis o) fit
-    (slice_get-get_or overrides axis o (omega (arith, three, below)))
+    (slice_get-get_or overrides axis o (omega (arith, is, below)))
 
 -- ---- stages with variables
 variable_row : (m : Module) (a : WordedAttribute) (variable : Option ℕ) →

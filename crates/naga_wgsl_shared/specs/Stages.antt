@@ -2,7 +2,8 @@
 --
 -- Throughout, m is a module, e an entry point of it, front is what stands in front of a variable,
 -- and x, y and z are the parts of a workgroup's size.
-use Rattle.std.specs.Prelude.{ℕ, List, [], ◌++◌, codes, decimal, IsTrue, Option, Some, None, length}
+use Rattle.std.specs.Prelude.{◌≡◌, ℕ, List, [], ◌++◌, codes, decimal, IsTrue, Option, Some, None}
+use Rattle.std.specs.Prelude.{length}
 use Rattle.std.specs.Option.{option_map}
 use Rattle.naga_ir.specs.declared.module.EntryPoint.{EntryPoint}
 use Rattle.naga_ir.specs.declared.module.MeshStageInfo.{MeshStageInfo}
@@ -14,13 +15,16 @@ use Rattle.naga_form.specs.Attributes.{size_attributes, stage_attributes}
 use Rattle.wgsl_text.specs.Attributes.{SizePart, FixedSize, NamedSize}
 use Rattle.naga_wgsl_shared.specs.Attributes.{attributes_text, worded_text}
 
--- the variables and overrides that an entry point names are there
+-- the variables and overrides that an entry point names are there, and a workgroup has a size along
+-- each of three axes
 pub record StageIsThere (m : Module) (e : EntryPoint) : Type 0 where
   pub output : IsTrue (is_below (length m.global_variables)
       (option_map (λ k. k.output_variable) e.mesh_info))
   pub payload : IsTrue (is_below (length m.global_variables) e.task_payload)
   pub incoming : IsTrue (is_below (length m.global_variables) e.incoming_ray_payload)
   pub overrides : IsTrue (size_overrides_fit m e)
+  pub axes : length e.workgroup_size ≡ 3
+  pub override_axes : length e.workgroup_size_overrides ≡ 3
 
 -- the attributes of its stage, and the line end after them
 unfoldable pub stage_text : Module → EntryPoint → List ℕ

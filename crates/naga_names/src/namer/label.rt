@@ -135,14 +135,17 @@ fn digits_are_separated(text: &[u8]) -> bool
     ensures { result ≡ (not (has_plain_end text.now) || is_numbered text.now) }
 {
     let front = without_last_digits(text);
-    ends_separated(front) || front == b"_e"
+    ends_separated(front) || front == b"_e".as_slice()
 }
 
 /// Whether the text ends in a `_`.
 fn ends_separated(text: &[u8]) -> bool
     ensures { result ≡ ends_separated text.now }
 {
-    text.last() == Some(&b'_')
+    match text.last() {
+        Some(byte) => *byte == b'_',
+        None => false,
+    }
 }
 
 /// The text without the ASCII digits at its end.
