@@ -1,15 +1,20 @@
 -- The whole numbers that `Value` reads are those that a numeral says.
-use Rattle.std.proofs.Common.{◌≡◌, ◌<◌, ◌^◌, ℕ, List, [], ◌∷◌, Option, Some, None, true, false, length, refl, ap, inl, inr, rules}
+use Rattle.std.proofs.Common.{◌≡◌, ◌<◌, ◌^◌, ℕ, zero, suc, List, [], ◌∷◌, Option, Some, None, true, false, length, refl, ap, sym, inl, inr, rules}
 use Rattle.std.specs.Prelude.{◌&&◌, if◌then◌else◌, ℤ, pos, negsuc, nat_lt, ok_or, MatchOption}
 use Rattle.std.specs.Int.{w64}
 use Rattle.std.specs.Char.{digit_value}
 use Rattle.std.specs.Str.Parse.{AllDigits, IsNumeral, digits_value, without_leading_plus, ParsesUnsigned}
 use Rattle.std.specs.Str.Parse.{without_leading_sign, signed_digits_value, ParsesSigned}
+use Rattle.std.specs.declared.num.NonZeroU32.{NonZeroU32}
+use Rattle.std.proofs.Math.Nat.{zero-lt-suc}
+use Rattle.std.proofs.Props.{props}
 use Rattle.std.proofs.lemmas.Bool.{cases_Bool}
 use mir.Val.{SFits}
+use Rattle.json.specs.Json.{Json}
+use Rattle.naga_ir.specs.declared.types.ArraySize.{ArraySize}
 use Rattle.naga_json.specs.Said.{◌>>=◌}
 use Rattle.naga_json.specs.Numbers.{all_digits, is_numeral, whole_of, fits, is_minus_zero}
-use Rattle.naga_json.specs.Numbers.{integer_of}
+use Rattle.naga_json.specs.Numbers.{integer_of, non_zero, unsigned_said, constant_size_said}
 
 all_digits-from : (ds : List ℕ) → AllDigits 10 ds → all_digits ds ≡ true
 all_digits-from [] h = refl
@@ -76,3 +81,14 @@ pub signed_read : (o : Option (List ℕ)) (r : Option ℤ) → is_minus_zero o �
     → MatchOption o (r ≡ None) (λ s. ParsesSigned w64 10 s (ok_or r s)) → r ≡ (o >>= integer_of)
 signed_read None r e h = h
 signed_read (Some s) r e h = rw e (integer_read s r h)
+
+-- The ghost field of a count that is not 0 has one proof.
+counted : (n : ℕ) (positive : 0 < n) → non_zero n ≡ Some (record { value = n; ok = positive })
+counted zero positive = absurd search rules
+counted (suc n) positive =
+    let one : IsProp (0 < suc n) = Prim.hlevel props in
+    ap (λ p. Some (record { value = suc n; ok = p })) (one (zero-lt-suc n) positive)
+
+pub constant_size_read : (j : Json) (n : ℕ) (count : NonZeroU32) → unsigned_said 32 j ≡ Some n → count.value ≡ n
+    → constant_size_said j ≡ Some (ArraySize.Constant count)
+constant_size_read j n count e f = rw (e, sym f, counted count.value count.ok) refl
