@@ -274,8 +274,10 @@ module _ (m : Module) (info : ModuleInfo) (fit : AreOfTheirTypes m) (numbered : 
       IsSome (unmet m.types (stage_demands (length m.global_variables) (length m.overrides) p))
   stage_told p sizes fails =
       told m.types (stage_demands (length m.global_variables) (length m.overrides) p)
-      (sym (both refl (both refl (both refl (without_last (size_overrides_fit m p)
-      (workgroup_fits_32_bits p) sizes)))) ∙ fails)
+      (sym (both {a = is_below (length m.global_variables) (option_map (λ k. k.output_variable) p.mesh_info)} refl
+      (both {a = is_below (length m.global_variables) p.task_payload} refl
+      (both {a = is_below (length m.global_variables) p.incoming_ray_payload} refl
+      (without_last (size_overrides_fit m p) (workgroup_fits_32_bits p) sizes)))) ∙ fails)
 
   entry_told : (p : EntryPoint) (known : List TypeResolution) →
       IsTrue (workgroup_fits_32_bits p) × HasItsNumbers p.function →

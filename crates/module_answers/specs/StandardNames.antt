@@ -3,8 +3,9 @@
 -- Throughout, m is a module.
 use Rattle.std.specs.Prelude.{Bool, true, false}
 use Rattle.naga_ir.specs.declared.module.Module.{Module}
+use Rattle.decimal_floats.specs.Decimals.{keeping_digits}
 
 -- the module as its standard text names it, where names keep the digits of their labels, or as it is
 abbrev pub named_as : (is_standard : Bool) → Module → Module
-named_as true m = record m { keeps_digits = true }
+named_as true m = keeping_digits m
 named_as false m = m

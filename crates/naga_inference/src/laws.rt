@@ -12,5 +12,4 @@ ghost use Rattle.naga_ir.specs.declared.module.Module.{Module};
 pub fn no_other_info_is_accepted()
     ensures { (m : Module) (found : ModuleInfo) → IsTyped m found →
         IsFalse (is_accepted m found) → NoneIsAccepted m }
-{
-}
+{}

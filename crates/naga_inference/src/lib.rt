@@ -7,8 +7,10 @@
 pub mod errors;
 mod functions;
 pub mod inference;
+mod laws;
 pub mod rules;
 
 pub use errors::{InferenceError, Untyped};
 pub use inference::{infer, inferred_types};
+pub use laws::no_other_info_is_accepted;
 pub use rules::{Missing, has_special_type, inferred_type};

@@ -2,7 +2,7 @@
 --
 -- Throughout, m is a module whose structs are not too long, its are the types that are left with their
 -- handles, and h is the handle of a type t.
-use Rattle.std.proofs.Common.{◌≡◌, ◌+◌, ◌<◌, ◌≤◌, ◌∙◌, ◌^◌, ℕ, zero, suc, List, [], ◌∷◌, Some, ap, arith}
+use Rattle.std.proofs.Common.{◌≡◌, ◌+◌, ◌≤◌, ◌^◌, ℕ, suc, List, [], ◌∷◌, Some}
 use Rattle.std.proofs.Common.{length, refl, slice_get, subst, sym}
 use Rattle.std.specs.Prelude.{⊤, Bool, true, false, nat_lt}
 use Rattle.std.specs.List.{enumerate_from}

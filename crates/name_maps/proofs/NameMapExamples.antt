@@ -1,14 +1,12 @@
 -- Examples of what is told of names, computed: of each kind of item the text of its row, and which items
 -- have one.
-use Rattle.std.proofs.Common.{◌≡◌, ◌==◌, List, [], ◌∷◌, Some, None, refl, map, Vec, Global, String}
+use Rattle.std.proofs.Common.{◌≡◌, ◌==◌, [], ◌∷◌, Some, None, refl, map, Vec, Global}
 use Rattle.std.specs.Prelude.{codes, if◌then◌else◌}
 use Rattle.std.specs.Fmt.{digits}
 use Rattle.indexmap.specs.IndexMap.{with_entries}
-use Rattle.naga_ir.specs.declared.module.EntryPoint as ir_entry_point
 use Rattle.naga_ir.specs.declared.module.Function as ir_function
 use Rattle.naga_ir.specs.declared.module.GlobalVariable as ir_global
 use Rattle.naga_ir.specs.declared.module.Module as ir_module
-use Rattle.naga_ir.specs.declared.module.Override as ir_override
 use Rattle.naga_ir.specs.declared.module.ShaderStage.TheVariants as stages
 use Rattle.naga_ir.specs.declared.types.AddressSpace.TheVariants as spaces
 use Rattle.naga_ir.specs.declared.types.ScalarKind.TheVariants as kind

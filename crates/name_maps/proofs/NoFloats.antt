@@ -7,21 +7,19 @@ use Rattle.std.specs.Prelude.{◌||◌}
 use Rattle.std.specs.List.{cons_option, enumerate_from, filter_map}
 use Rattle.std.specs.Option.{is_some, option_map, option_map_or}
 use Rattle.std.specs.declared.string.String.{String}
-use Rattle.naga_ir.specs.declared.module.Constant.{Constant}
 use Rattle.naga_ir.specs.declared.module.Module.{Module}
 use Rattle.naga_ir.specs.declared.types.StructMember.{StructMember}
-use Rattle.naga_ir.specs.declared.types.Type_.{Type_}
 use Rattle.naga_naming.specs.Keys.{NameMap}
 use Rattle.naga_naming.specs.Reset.{members_of}
 use Rattle.module_semantics.specs.Undeclared.{is_declared}
 use Rattle.serde_json.specs.Data.{Data}
 use Rattle.serde_json.specs.View.{items_of}
 use Rattle.serde_json.specs.Written.{has_float, items_have_float}
-use Rattle.name_maps.specs.NameMaps.{constant_row, constant_rows, count_or_null, declared_struct}
-use Rattle.name_maps.specs.NameMaps.{entry_point_row, entry_point_rows, function_row, function_rows}
-use Rattle.name_maps.specs.NameMaps.{global_row, global_rows, list_of, member_row, member_rows}
-use Rattle.name_maps.specs.NameMaps.{name_map, named_constant, override_row, override_rows}
-use Rattle.name_maps.specs.NameMaps.{struct_row, struct_rows, text_or_null}
+use Rattle.name_maps.specs.NameMaps.{constant_row, count_or_null, declared_struct}
+use Rattle.name_maps.specs.NameMaps.{entry_point_row, function_row}
+use Rattle.name_maps.specs.NameMaps.{global_row, list_of, member_row, member_rows}
+use Rattle.name_maps.specs.NameMaps.{name_map, named_constant, override_row}
+use Rattle.name_maps.specs.NameMaps.{struct_row, text_or_null}
 
 both : (a b : Bool) → a ≡ false → b ≡ false → (a || b) ≡ false
 both a b none more = ap (λ c. c || b) none ∙ more

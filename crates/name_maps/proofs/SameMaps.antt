@@ -2,7 +2,7 @@
 --
 -- Throughout, m is the module, names are the others, own those of its text, f and g are rows of items after
 -- their numbers, n is the number of the first item, and i the place of one in its list.
-use Rattle.std.proofs.Common.{◌≡◌, ◌∙◌, ◌+◌, ℕ, zero, suc, List, [], ◌∷◌, Option, Some, None, ap, arith}
+use Rattle.std.proofs.Common.{◌≡◌, ◌+◌, ℕ, suc, List, [], ◌∷◌, Option, Some, None, ap, arith}
 use Rattle.std.proofs.Common.{◌<◌, codes, if◌then◌else◌, length, map, refl, slice_get, string_bytes}
 use Rattle.std.proofs.Common.{subst}
 use Rattle.std.specs.Prelude.{unwrap_or}
@@ -17,7 +17,6 @@ use Rattle.naga_ir.specs.declared.module.Function.{Function}
 use Rattle.naga_ir.specs.declared.module.GlobalVariable.{GlobalVariable}
 use Rattle.naga_ir.specs.declared.module.Module.{Module}
 use Rattle.naga_ir.specs.declared.module.Override.{Override}
-use Rattle.naga_ir.specs.declared.types.StructMember.{StructMember}
 use Rattle.naga_ir.specs.declared.types.Type_.{Type_}
 use Rattle.naga_naming.proofs.Refusal.{run_out_unfit}
 use Rattle.naga_naming.specs.Keys.{NameMap}
@@ -30,15 +29,14 @@ use Rattle.module_semantics.proofs.FunctionNumbers.{number_within, type_of_entry
 use Rattle.module_semantics.specs.FunctionNumbers.{all_functions, function_type}
 use Rattle.module_semantics.specs.Names.{HasNamesOf, module_names, name_in}
 use Rattle.module_semantics.specs.Undeclared.{is_declared}
-use Rattle.serde_json.specs.Data.{Data, member, no_members, object, string}
+use Rattle.serde_json.specs.Data.{member, no_members, object, string}
 use Rattle.serde_json.specs.Written.{compact_text}
-use Rattle.name_maps.specs.NameMaps.{binding_or_null, constant_row, constant_rows, count}
+use Rattle.name_maps.specs.NameMaps.{binding_or_null, count}
 use Rattle.name_maps.specs.NameMaps.{count_or_null, declared_struct, entry_point_row}
-use Rattle.name_maps.specs.NameMaps.{entry_point_rows, function_row, function_rows, global_row}
-use Rattle.name_maps.specs.NameMaps.{global_rows, group_or_null, label_or_null, list_of, map_text}
-use Rattle.name_maps.specs.NameMaps.{member_row, member_rows, name_map, named_constant}
-use Rattle.name_maps.specs.NameMaps.{override_row, override_rows, space_or_null, stage_word}
-use Rattle.name_maps.specs.NameMaps.{struct_row, struct_rows}
+use Rattle.name_maps.specs.NameMaps.{function_row, global_row}
+use Rattle.name_maps.specs.NameMaps.{group_or_null, label_or_null, list_of, map_text}
+use Rattle.name_maps.specs.NameMaps.{member_row, name_map, named_constant}
+use Rattle.name_maps.specs.NameMaps.{override_row, space_or_null, stage_word}
 
 -- ---- lists of rows that are the same item by item
 module _ {X Y : Type 0} (f g : ℕ × X → Y) where

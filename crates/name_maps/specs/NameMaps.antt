@@ -3,7 +3,7 @@
 -- An object's members stand in the order of their keys, and each list in the order of the handles of its
 -- items. Throughout, m is the module, names are those of its items, and p is an item after its handle or,
 -- where it has none, its number.
-use Rattle.std.specs.Prelude.{ℕ, List, [], ◌∷◌, Bool, Option, Some, None, codes, map, string_bytes}
+use Rattle.std.specs.Prelude.{ℕ, List, Option, Some, None, codes, map, string_bytes}
 use Rattle.std.specs.Prelude.{if◌then◌else◌}
 use Rattle.std.specs.List.{enumerate_from, filter_map}
 use Rattle.std.specs.Option.{is_some, option_map, option_map_or}

@@ -272,7 +272,8 @@ module _ (json : List ℕ) (flags : ℕ) (writer : WriterFlags) (from : JsonHold
   }
 
   pub wrote : (answer : Result Unit Error) (refusal : Option Refusal) (told : Status) (text : List ℕ) →
-      (IsTrue (asks_decimal_floats flags) → IsDecimalUnlessWanting answer m) → FaithfulWriting writer m info answer [] content 0 0 → AppendsItsText m info writer answer [] content →
+      (IsTrue (asks_decimal_floats flags) → IsDecimalUnlessWanting answer m) →
+      FaithfulWriting writer m info answer [] content 0 0 → AppendsItsText m info writer answer [] content →
       TellsBeside (annotates_types writer) m info answer refusal → length content ≤ longest_text →
       SaysOfWritten from m answer refusal content told text → TellsOfWriting json flags told text
   wrote (Ok tt) refusal told text complete faithful appends beside within is =

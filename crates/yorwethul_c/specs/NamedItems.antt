@@ -19,19 +19,19 @@ abbrev pub named_under : (flags : ℕ) → Module → Module
 named_under flags m = named_as (asks_decimal_floats flags) m
 
 -- The text has the names of an accepted module's items, as its text under these flags has them.
-pub record AreNamed (flags : ℕ) (text : List ℕ) : Type 0 where
+pub record AreNamed (json : List ℕ) (flags : ℕ) (text : List ℕ) : Type 0 where
   pub flags_are_known : flags ≤ 7
   pub from : JsonHolder
   pub m : Module
   pub read : ModuleInfo
-  pub was_read : WasRead from m read
+  pub was_read : WasRead json from m read
   pub accepted : IsTrue (is_accepted m read)
   pub text_is : text ≡ map_text (named_under flags m) (module_names (named_under flags m))
 
 -- of a module whose names are asked for: it is refused where its items can't all be named
 abbrev pub TellsOfNames : (json : List ℕ) (flags : ℕ) → Status → (text : List ℕ) → Type 0
-TellsOfNames json flags status.Done text = AreNamed flags text
-TellsOfNames json flags status.Refused text = IsAccepted
-TellsOfNames json flags status.NotAccepted text = TellsOfFault text
+TellsOfNames json flags status.Done text = AreNamed json flags text
+TellsOfNames json flags status.Refused text = IsAccepted json
+TellsOfNames json flags status.NotAccepted text = TellsOfFault json text
 TellsOfNames json flags status.UnknownFlag text = 8 ≤ flags
 TellsOfNames json flags told text = TellsOfReading json told text

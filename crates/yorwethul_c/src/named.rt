@@ -30,8 +30,9 @@ pub fn named(alloc: Global, json: &[u8], flags: u32) -> Answer
 
 fn named_shader(alloc: Global, shader: &mut Shader, flags: u32) -> Answer
     requires known { flags ≤ 7 }
-    requires read { WasRead shader.old.holder shader.old.module shader.old.info }
-    ensures { (json : List ℕ) → TellsOfNames json flags result.status (string_bytes result.text) }
+    ensures { (json : List ℕ) →
+        WasRead json shader.old.holder shader.old.module shader.old.info →
+        TellsOfNames json flags result.status (string_bytes result.text) }
 {
     match unaccepted(&shader.module, &shader.info) {
         Some(fault) => not_accepted(alloc, shader, fault),

@@ -1,6 +1,6 @@
 use Rattle.std.proofs.Common.{◌≡◌, drop, []}
 use Rattle.fault_details.specs.Demands.{OfEach, OfSome, there, unmet}
-use Rattle.fault_details.specs.declared.words.ListName.TheVariants.{Overrides}
+use Rattle.module_semantics.specs.declared.named.ListName.TheVariants.{Overrides}
 use Rattle.fault_details.proofs.names.sizes_reason.Given as goal
 
 abbrev pub invariant-loop-size : goal.invariant-loop-size

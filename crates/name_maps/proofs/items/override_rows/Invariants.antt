@@ -1,4 +1,4 @@
-use Rattle.std.proofs.Common.{◌≡◌, [], map}
+use Rattle.std.proofs.Common.{◌≡◌, map}
 use Rattle.std.specs.List.{enumerate_from}
 use Rattle.naga_naming.specs.Keys.{names_in}
 use Rattle.name_maps.proofs.MadeRows.{rows_after}

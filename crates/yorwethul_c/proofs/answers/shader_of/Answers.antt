@@ -1,4 +1,4 @@
-use Rattle.std.proofs.Common.{◌≡◌, IfErr, IfOk, None, OnOk, subst, sym}
+use Rattle.std.proofs.Common.{◌≡◌, IfErr, IfOk, None, OnOk, string_bytes, subst}
 use Rattle.module_answers.specs.Shaders.{IsInfoOf, TellsUnasked}
 use Rattle.module_limits.specs.Nesting.{nested_past}
 use Rattle.yorwethul_c.specs.Answers.{SaysOfUnasked, deepest_nesting}
@@ -19,5 +19,5 @@ returns-in-Err-clause-unread c =
     λ json stands. not_asked json given c.in-Err.unasked _ _ stands
     (subst (λ r. IfErr r (TellsUnasked deepest_nesting given.module given.info)) c.in-Err.is
     c.info_within.ensures.unasked)
-    (subst (λ from. SaysOfUnasked from given.module c.in-Err.unasked _ _) c.holder_of-holder.ensures
-    c.not_asked.ensures)
+    (subst (λ from. SaysOfUnasked from given.module c.in-Err.unasked c.not_asked.result.status
+    (string_bytes c.not_asked.result.text)) c.holder_of-holder.ensures c.not_asked.ensures)
