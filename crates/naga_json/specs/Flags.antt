@@ -1,6 +1,6 @@
 -- What a JSON value says of sets of flags: the names of their bits, which are those of naga's `StorageAccess`,
 -- `MemoryDecorations` and `Barrier` (docs/JSON.md, "Forms").
-use Rattle.std.specs.Prelude.{ℕ, List, [], ◌∷◌, Bool, if◌then◌else◌, ◌==◌, Option, Some, None}
+use Rattle.std.specs.Prelude.{ℕ, List, [], ◌∷◌, if◌then◌else◌, ◌==◌, Option, Some, None}
 use Rattle.std.specs.Prelude.{Result, Ok, Err}
 use Rattle.std.specs.Int.RustNames.{bit_and}
 use Rattle.json.specs.Json.{Json}

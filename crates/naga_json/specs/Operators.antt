@@ -1,6 +1,6 @@
 -- What a JSON value says of operators and functions: the names of naga's enums of them, as serde writes them
 -- (docs/JSON.md, "Forms").
-use Rattle.std.specs.Prelude.{◌∷◌, [], Option, Some, None}
+use Rattle.std.specs.Prelude.{◌∷◌, [], Option, Some}
 use Rattle.json.specs.Json.{Json}
 use Rattle.naga_json.specs.Said.{◌⇒◌, ◌>>=◌, Table, members, option_field, unit_said, word_said}
 use Rattle.naga_json.specs.Said.{variant_said}

@@ -1,6 +1,6 @@
 -- What a JSON value says, as serde's forms have it: Some of what contracts see in the value that is read, or None.
 -- docs/JSON.md tells these forms under "Forms".
-use Rattle.std.specs.Prelude.{◌≡◌, ◌<◌, ◌^◌, ℕ, List, [], ◌∷◌, Bool, true, false, cond, ◌&&◌, ◌||◌}
+use Rattle.std.specs.Prelude.{◌≡◌, ℕ, List, [], ◌∷◌, Bool, true, false, cond, ◌&&◌, ◌||◌}
 use Rattle.std.specs.Prelude.{Option, Some, None, option_map, Result, Ok, Err, ⊤}
 use Rattle.std.specs.Prelude.{codes, ◌+◌, ◌==◌}
 use Rattle.std.specs.Option.{is_some}
@@ -9,7 +9,7 @@ use Prim.Native.String.{String}
 use Rattle.std.specs.Str.{bytes_eq}
 use Rattle.json.specs.Json.{Json, null, boolean, number, string, array, object, Items, no_items, item}
 use Rattle.json.specs.Json.{Members, no_members, member}
-use Rattle.json.specs.Find.{get, get_member, is_null, as_bool, as_array, as_object}
+use Rattle.json.specs.Find.{get, is_null, as_bool, as_array, as_object}
 use Rattle.naga_json.specs.declared.error.ReadError.{ReadError}
 use Rattle.naga_json.specs.declared.error.ReadError.TheVariants.{OutOfMemory, NoJson, Misfit}
 

@@ -32,7 +32,11 @@ impl FromJsonUntold for SizeExpressions {
 fn size_expressions(alloc: Global, entry_point: &Value) -> Result<SizeExpressions, ReadError> {
     match entry_point.get(MEMBER) {
         Some(sizes) if !sizes.is_null() => {
-            in_member(alloc, MEMBER, SizeExpressions::from_json_untold(alloc, sizes))
+            in_member(
+                alloc,
+                MEMBER,
+                SizeExpressions::from_json_untold(alloc, sizes),
+            )
         }
         _ => Ok(SizeExpressions([None, None, None])),
     }

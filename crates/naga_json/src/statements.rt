@@ -2,8 +2,8 @@
 
 ghost use Rattle.json.specs.Value.{value_view};
 ghost use Rattle.naga_ir.specs.StatementViews.{tree_of};
-ghost use Rattle.naga_json.specs.Said.{Gives, same};
-ghost use Rattle.naga_json.specs.Statements.{return_said, simple_said};
+ghost use Rattle.naga_json.specs.Said.{Gives, entry_of, same};
+ghost use Rattle.naga_json.specs.Statements.{return_said, simple_said, statement_names};
 ghost use Rattle.naga_json.specs.Statements.{switch_value_names, switch_value_payload};
 ghost use Rattle.naga_json.specs.Statements.{switch_value_said, ray_pipeline_function_names};
 ghost use Rattle.naga_json.specs.Statements.{trace_ray_said, ray_pipeline_function_payload};
@@ -234,6 +234,13 @@ const STATEMENT_NAMES: &[(&str, StatementName)] = &[
     ),
 ];
 
+/// The variant of this name.
+fn statement_named(alloc: Global, name: &str) -> Result<StatementName, ReadError>
+    ensures { Gives same (entry_of statement_names name.now) result }
+{
+    entry_named(alloc, name, STATEMENT_NAMES)
+}
+
 /// A statement without blocks.
 fn simple(alloc: Global, name: SimpleName, payload: &Value) -> Result<Statement, ReadError>
     ensures { Gives tree_of (simple_said name (value_view payload.now)) result }
@@ -456,7 +463,7 @@ fn statement(alloc: Global, value: &Value, levels: u32) -> Result<Statement, Rea
     let Some(found) = named_variant(&*value, &null) else {
         return Err(mistyped(alloc, JsonKind::Variant));
     };
-    let name = entry_named(alloc, found.name, STATEMENT_NAMES)?;
+    let name = statement_named(alloc, found.name)?;
     in_member(
         alloc,
         found.name,

@@ -1,7 +1,6 @@
 -- The last member of a list is that of what the list is seen as.
-use Rattle.std.proofs.Common.{◌≡◌, ℕ, suc, ◌-◌, List, [], ◌∷◌, length, Option, Some, None, option_map}
+use Rattle.std.proofs.Common.{◌≡◌, ℕ, suc, ◌-◌, List, [], ◌∷◌, length, Some, None}
 use Rattle.std.proofs.Common.{refl, ◌∙◌, ap, sym, subst, arith, slice_get, Bor, Global}
-use Rattle.std.specs.Option.{option_copied}
 use Rattle.json.specs.Value.{value_view, members_view}
 use Rattle.json.specs.declared.value.Value.{Value}
 use Rattle.naga_json.specs.Said.{last_member}
