@@ -456,12 +456,13 @@ def test_alone(folder, _):
 
 
 # What a text declares: each kind of item with the words in front of its identifier, at the front of a line.
+ATTRIBUTES = r"(?:@\w+(?:\([^()]*\))? )*"
 DECLARED = {
     "functions": r"^fn (\w+)\(",
     "structs": r"^struct (\w+) \{",
-    "globals": r"^(?:@\S+ )*var(?:<[^>]*>)? (\w+):",
+    "globals": rf"^{ATTRIBUTES}var(?:<[^>]*>)? (\w+):",
     "constants": r"^const (\w+):",
-    "overrides": r"^(?:@\S+ )*override (\w+):",
+    "overrides": rf"^{ATTRIBUTES}override (\w+):",
 }
 
 
@@ -481,7 +482,7 @@ def test_identifiers(folder, _):
             must(told == found, f"{told} of a text that declares {found}: {text[:300]}")
             for item in names["structs"]:
                 body = re.search(rf"^struct {item['identifier']} \{{\n(.*?)^\}}", text, re.MULTILINE | re.DOTALL)[1]
-                members = re.findall(r"^    (?:@\S+ )*(\w+):", body, re.MULTILINE)
+                members = re.findall(rf"^    {ATTRIBUTES}(\w+):", body, re.MULTILINE)
                 must(members == [member["identifier"] for member in item["members"]], f"{item} of {body}")
             count += 1
     return f"{count} texts"
@@ -523,8 +524,12 @@ def cut_answers(output, names):
         end = output.find(f"\n== {following}\n", at + len(head) - 1) + 1 if following else len(output)
         told = output[at + len(head):end]
         told, _, portable = told.partition(f"== {name}, portable\n")
+        told, _, digits = told.partition(f"== {name}, with digits\n")
         plain, typed, with_types = told.partition(f"== {name}, with types\n")
         wanted = {0: plain, EXPLICIT_TYPES: with_types if typed else plain}
+        if digits:
+            digits, typed, with_types = digits.partition(f"== {name}, with digits and types\n")
+            wanted |= {DECIMAL_FLOATS: digits, DECIMAL_FLOATS | EXPLICIT_TYPES: with_types if typed else digits}
         if portable:
             portable, typed, with_types = portable.partition(f"== {name}, portable with types\n")
             wanted |= {PORTABLE: portable, PORTABLE | EXPLICIT_TYPES: with_types if typed else portable}
