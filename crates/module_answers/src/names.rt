@@ -20,7 +20,7 @@ use std::alloc::Global;
 ///
 /// The error is one of those of [`names_of`]: of a module whose items can't all be named, or
 /// of memory.
-#[tactic(auto, using(name_maps::proofs::SameMaps::same_map, name_maps::proofs::SameMaps::few_keys))]
+#[tactic(auto, using(name_maps::proofs::SameMaps::same_map))]
 pub fn names_value(alloc: Global, module: &Module) -> Result<Value, Error>
     ensures map { IfOk result (λ v. view v ≡ name_map «module».now (module_names «module».now)) }
     ensures err { IfErr result (IsNamesRefusal «module».now) }
@@ -31,7 +31,7 @@ pub fn names_value(alloc: Global, module: &Module) -> Result<Value, Error>
 }
 
 /// The same as a text, without blanks or line ends.
-#[tactic(auto, using(name_maps::proofs::SameMaps::same_text, name_maps::proofs::SameMaps::few_keys))]
+#[tactic(auto, using(name_maps::proofs::SameMaps::same_text))]
 pub fn names_text(alloc: Global, module: &Module) -> Result<String, Error>
     ensures text { IfOk result
         (λ text. string_bytes text ≡ map_text «module».now (module_names «module».now)) }
