@@ -18,6 +18,6 @@ mod walk;
 mod words;
 
 pub use mismatch::Mismatch;
-pub use spelled::explain;
 pub use module_semantics::ListName;
+pub use spelled::explain;
 pub use words::{Counted, Need, TypeClass};

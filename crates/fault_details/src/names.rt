@@ -16,9 +16,9 @@ ghost use Rattle.fault_details.specs.Reasons.{stage_demands};
 ghost use Rattle.fault_details.specs.Shown.{shown};
 
 use crate::reasons::{Reason, absent, not_before};
+use indexmap::IndexMap;
 use module_semantics::ListName;
 use module_semantics::named::{count_of, named_item};
-use indexmap::IndexMap;
 use naga_info::TypeResolution;
 use naga_ir::{
     ArraySize, EntryPoint, Expression, Function, FunctionArgument, FunctionResult, Handle,
