@@ -200,8 +200,9 @@ impl Namer {
     /// variables, its globals, its constants and its overrides, in this order.
     ///
     /// From then on identifiers keep off the words and prefixes given, and keep their digits where
-    /// `module.keeps_digits` says so, and the names given before are forgotten. The members of a struct are a namespace of their own, in which builtin words
-    /// are free: a member may have the name of another struct's, or of an item outside. An item
+    /// `module.keeps_digits` says so, and the names given before are forgotten. The members of a
+    /// struct are a namespace of their own, in which builtin words are free: a member may have the
+    /// name of another struct's, or of an item outside. An item
     /// without a label is named `type`, `member`, `param`, `local`, `function` or `global`; a
     /// struct without one that entry points return `VertexOutput`, `FragmentOutput` or
     /// `ComputeOutput`, by the last of them that has such a word; a constant `const_` and its

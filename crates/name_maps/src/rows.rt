@@ -18,6 +18,7 @@ use std::alloc::{AllocError, Global};
 use std::collections::HashMap;
 use wgsl_words::space_str;
 
+/// A named constant: its handle, its label and its identifier.
 pub fn constant_row(
     alloc: Global,
     names: &HashMap<NameKey, String>,
@@ -35,6 +36,7 @@ pub fn constant_row(
     })
 }
 
+/// An entry point: its index, its label, its identifier and its stage.
 pub fn entry_point_row(
     alloc: Global,
     names: &HashMap<NameKey, String>,
@@ -52,6 +54,7 @@ pub fn entry_point_row(
     })
 }
 
+/// A function: its handle, its label, or null, and its identifier.
 pub fn function_row(
     alloc: Global,
     names: &HashMap<NameKey, String>,
@@ -69,6 +72,7 @@ pub fn function_row(
     })
 }
 
+/// A variable of the module: its handle, label and identifier, where it is bound and where it lives.
 pub fn global_row(
     alloc: Global,
     names: &HashMap<NameKey, String>,
@@ -89,6 +93,7 @@ pub fn global_row(
     })
 }
 
+/// An override: its handle, label and identifier, and the number by which a pipeline names it.
 pub fn override_row(
     alloc: Global,
     names: &HashMap<NameKey, String>,
@@ -106,6 +111,7 @@ pub fn override_row(
     })
 }
 
+/// A member of a struct: its index, its label, or null, and its identifier.
 pub fn member_row(
     alloc: Global,
     names: &HashMap<NameKey, String>,
@@ -136,6 +142,7 @@ pub fn name_in<'a>(names: &'a HashMap<NameKey, String>, key: &NameKey) -> &'a st
     }
 }
 
+/// The label as JSON has it; null where there is none.
 pub fn label_or_null(alloc: Global, label: &Option<String>) -> Result<Value, AllocError>
     ensures { IfOk result (λ v. view v ≡ label_or_null label.now) }
 {
