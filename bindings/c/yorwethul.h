@@ -51,7 +51,9 @@ uint32_t yorwethul_write(const uint8_t *json, size_t json_length, uint32_t flags
                          uint8_t *out, size_t out_length, size_t *needed);
 uint32_t yorwethul_check(const uint8_t *json, size_t json_length,
                          uint8_t *out, size_t out_length, size_t *needed);
-uint32_t yorwethul_layout(const uint8_t *json, size_t json_length,
+
+/* Where the members of the structs stand, under the names of the text that the module has under these flags. */
+uint32_t yorwethul_layout(const uint8_t *json, size_t json_length, uint32_t flags,
                           uint8_t *out, size_t out_length, size_t *needed);
 
 /* Which identifier of the text that the module has under these flags stands for which item of it: one line of JSON,

@@ -88,7 +88,7 @@ fn a_module_alone_is_written() {
         write_module(&module, flags),
         write(&module, &known(&module), flags)
     );
-    assert_eq!(layout_module(&module).as_deref(), Ok(""));
+    assert_eq!(layout_module(&module, Flags::default()).as_deref(), Ok(""));
     let named = names(&module, &known(&module), flags).unwrap();
     assert!(named.contains("{\"handle\":0,\"identifier\":\"double\",\"label\":\"double\"}"));
     assert_eq!(names_module(&module, flags), Ok(named));
@@ -240,7 +240,7 @@ fn layouts_are_told() {
         },
         SPAN,
     );
-    let told = layout(&module, &known(&module)).unwrap();
+    let told = layout(&module, &known(&module), Flags::default()).unwrap();
     assert_eq!(
         told,
         "struct One: align 4, size 4\n    a: i32, offset 0, align 4, size 4\n"
@@ -273,7 +273,7 @@ fn deep_operands_take_a_thread() {
     let info = known(&module);
     let text = write(&module, &info, Flags::empty()).unwrap();
     assert_eq!(text.matches("-(").count(), depth);
-    assert_eq!(layout(&module, &info).as_deref(), Ok(""));
+    assert_eq!(layout(&module, &info, Flags::default()).as_deref(), Ok(""));
 }
 
 /// Stages, of which naga's own may have more fields.

@@ -56,7 +56,7 @@ fn a_module_is_written() {
     let explicit = TEXT.replace("let sum =", "let sum: i32 =");
     assert_eq!(write_json(DOUBLE, Flags::EXPLICIT_TYPES), Ok(explicit));
     assert_eq!(check_json(DOUBLE), Ok(()));
-    assert_eq!(layout_json(DOUBLE).as_deref(), Ok(""));
+    assert_eq!(layout_json(DOUBLE, Flags::default()).as_deref(), Ok(""));
     assert_eq!(names_json(DOUBLE, Flags::empty()).as_deref(), Ok(NAMES));
 }
 
@@ -76,7 +76,7 @@ fn a_module_alone_is_written() {
     for json in alone() {
         assert_eq!(write_json(&json, Flags::empty()).as_deref(), Ok(TEXT));
         assert_eq!(check_json(&json), Ok(()));
-        assert_eq!(layout_json(&json).as_deref(), Ok(""));
+        assert_eq!(layout_json(&json, Flags::default()).as_deref(), Ok(""));
         let odd = json.replace("\"left\": 0", "\"left\": 1");
         let error = write_json(&odd, Flags::empty()).unwrap_err();
         let position = error.position().unwrap();
@@ -146,7 +146,7 @@ fn a_module_that_is_not_accepted_tells_the_position() {
     for error in [
         write_json(&odd, Flags::empty()).unwrap_err(),
         check_json(&odd).unwrap_err(),
-        layout_json(&odd).unwrap_err(),
+        layout_json(&odd, Flags::default()).unwrap_err(),
     ] {
         assert!(matches!(error, Error::NotAccepted { .. }), "{error}");
         assert_eq!(error.position(), Some("module.functions[0].expressions[1]"));
@@ -218,7 +218,7 @@ fn deep_operands_take_a_stack() {
     let text = write_json_on_thread(&json, Flags::empty()).unwrap();
     assert_eq!(text.matches("-(").count(), 3_999);
     assert_eq!(check_json_on_thread(&json), Ok(()));
-    assert_eq!(layout_json_on_thread(&json).as_deref(), Ok(""));
+    assert_eq!(layout_json_on_thread(&json, Flags::default()).as_deref(), Ok(""));
     let names = names_json_on_thread(&json, Flags::empty()).unwrap();
     assert_eq!(names, NAMES.replace("double", "deep"));
     assert!(stack_size(&json) <= STACK);

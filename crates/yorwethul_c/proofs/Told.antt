@@ -3,7 +3,7 @@ use Rattle.std.proofs.Common.{◌≡◌, ◌≤◌, ◌∙◌, ℕ, List, [], Er
 use Rattle.std.proofs.Common.{Result, Some, ap, inl, inr, is_none, length, refl, subst, sym, arith}
 use Rattle.std.specs.Prelude.{Bool, true, false}
 use Rattle.std.proofs.lemmas.Bool.{le-leb, lt-leb}
-use Rattle.decimal_floats.specs.Decimals.{IsDecimalModule, keeping_digits}
+use Rattle.decimal_floats.specs.Decimals.{IsDecimalModule, IsDecimalThroughout, keeping_digits}
 use Rattle.std.specs.Prelude.{◌<◌, ◌%◌, IfSome, IsTrue}
 use Rattle.naga_ir.specs.declared.module.Module.{Module}
 use Rattle.naga_info.specs.declared.info.ModuleInfo.{ModuleInfo}
@@ -37,7 +37,7 @@ use Rattle.module_answers.specs.declared.within.NoOutcome.TheVariants as unwritt
 use Rattle.yorwethul_c.specs.Answers.{IsAccepted, IsGivenIn, IsRefused, IsTooLong}
 use Rattle.yorwethul_c.specs.Answers.{WasWritten, LacksMemory, Says, SaysOfError, SaysOfUnasked}
 use Rattle.yorwethul_c.specs.Answers.{SaysOfUnwritten, SaysOfWritten, SaysThat, TellsAnyRefusal}
-use Rattle.yorwethul_c.specs.Answers.{TellsOfChecking, TellsOfFault, TellsOfLayouts, WasRead}
+use Rattle.yorwethul_c.specs.Answers.{TellsOfChecking, TellsOfFault, WasRead}
 use Rattle.yorwethul_c.specs.Answers.{deepest_nesting, longest_text, TellsOfReading}
 use Rattle.yorwethul_c.specs.Answers.{TellsOfWriting, IsAsAsked, WasAsked, asks_decimal_floats}
 use Rattle.yorwethul_c.specs.declared.status.Status.{Status}
@@ -96,17 +96,6 @@ unread_checked json status.Refused text tells = absurd tells
 unread_checked json status.NotAccepted text tells = inr tells
 unread_checked json status.UnknownFlag text tells = absurd tells
 unread_checked json status.TooLong text tells = absurd tells
-
-pub unread_laid_out : (json : List ℕ) (told : Status) (text : List ℕ) → TellsOfReading json told text →
-    TellsOfLayouts json told text
-unread_laid_out json status.NoModule text tells = tells
-unread_laid_out json status.TooDeep text tells = tells
-unread_laid_out json status.OutOfMemory text tells = tells
-unread_laid_out json status.Done text tells = absurd tells
-unread_laid_out json status.Refused text tells = absurd tells
-unread_laid_out json status.NotAccepted text tells = inr tells
-unread_laid_out json status.UnknownFlag text tells = absurd tells
-unread_laid_out json status.TooLong text tells = absurd tells
 
 -- ---- what was read
 
@@ -246,6 +235,15 @@ pub with_decimal_floats : (flags : ℕ) (given m : Module) → 4 ≤ flags → I
 with_decimal_floats flags given m more decimal =
     subst (λ asked. IsAsAsked asked given m) (sym (le-leb 4 flags more)) decimal
 
+-- each finite float of a module that is refused has a numeral
+decimal_of : (e : Error) (m : Module) → TellsOfModule e → IsDecimalUnlessWanting (Err e) m → IsDecimalThroughout m
+decimal_of (error.Memory e) m tells decimal = absurd tells
+decimal_of (error.FmtError e) m tells decimal = decimal
+decimal_of (error.Custom e) m tells decimal = decimal
+decimal_of (error.Unimplemented e) m tells decimal = decimal
+decimal_of (error.UnsupportedRelationalFunction e) m tells decimal = decimal
+decimal_of (error.Unsupported kind value) m tells decimal = decimal
+
 -- what the writer did when asked
 module _ (json : List ℕ) (flags : ℕ) (writer : WriterFlags) (from : JsonHolder) (given m : Module)
     (read info : ModuleInfo) (content : List ℕ) (known : flags ≤ 7) (bits : bits_of writer ≡ flags % 4)
@@ -257,11 +255,12 @@ module _ (json : List ℕ) (flags : ℕ) (writer : WriterFlags) (from : JsonHold
 
   -- an error that tells of the module is a refusal, which is told beside it
   refusing : (e : Error) (refusal : Option Refusal) (text : List ℕ) →
+      (IsTrue (asks_decimal_floats flags) → IsDecimalUnlessWanting (Err e) m) →
       FaithfulWriting writer m info (Err e) [] content 0 0 →
       TellsBeside (annotates_types writer) m info (Err e) refusal → TellsOfModule e →
       TellsAnyRefusal from m refusal text → IsRefused json flags text
-  refusing e None text faithful beside tells line = absurd (beside tells)
-  refusing e (Some refusal) text faithful beside tells line = record {
+  refusing e None text complete faithful beside tells line = absurd (beside tells)
+  refusing e (Some refusal) text complete faithful beside tells line = record {
     asked = asking;
     error = e;
     beginning = content;
@@ -269,6 +268,7 @@ module _ (json : List ℕ) (flags : ℕ) (writer : WriterFlags) (from : JsonHold
     refusal = refusal;
     beside = beside;
     line = line;
+    complete = λ asks. decimal_of e m tells (complete asks);
   }
 
   pub wrote : (answer : Result Unit Error) (refusal : Option Refusal) (told : Status) (text : List ℕ) →
@@ -288,4 +288,4 @@ module _ (json : List ℕ) (flags : ℕ) (writer : WriterFlags) (from : JsonHold
       subst (λ s. TellsOfWriting json flags s text) (sym is.0) done
   wrote (Err e) refusal told text complete faithful appends beside within says =
       stopped json flags writer from m info refusal e told text faithful.refusals
-      (refusing e refusal text faithful beside) says
+      (refusing e refusal text complete faithful beside) says

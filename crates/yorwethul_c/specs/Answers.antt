@@ -146,7 +146,8 @@ pub record IsTooLong (json : List ℕ) (flags : ℕ) : Type 0 where
   pub past : IsPastBound asked.writer longest_text asked.m asked.info
 
 -- The writer refused an accepted module, for a listed construct that stands there and is the first,
--- and this line tells it with its position.
+-- and this line tells it with its position. Where decimal floats are asked for, each finite one has a
+-- numeral, so that none is refused for being held as its bits.
 pub record IsRefused (json : List ℕ) (flags : ℕ) (text : List ℕ) : Type 0 where
   pub asked : WasAsked json flags
   pub error : Error
@@ -155,6 +156,7 @@ pub record IsRefused (json : List ℕ) (flags : ℕ) (text : List ℕ) : Type 0 
   pub refusal : Refusal
   pub beside : TellsRefusal (annotates_types asked.writer) asked.m asked.info (Err error) refusal
   pub line : TellsRefusalAt asked.from asked.m refusal text
+  pub complete : IsTrue (asks_decimal_floats flags) → IsDecimalThroughout asked.m
 
 -- A module was read of which this is nested too deep.
 pub record IsTooDeep (json : List ℕ) : Type 0 where
@@ -222,13 +224,6 @@ abbrev pub TellsOfChecking : (json : List ℕ) → Status → (text : List ℕ) 
 TellsOfChecking json status.Done text = IsAccepted json × (text ≡ [])
 TellsOfChecking json status.NotAccepted text = TellsOfFault json text
 TellsOfChecking json told text = TellsOfReading json told text
-
--- of one whose layouts are asked for: it is refused where its items get no names
-abbrev pub TellsOfLayouts : (json : List ℕ) → Status → (text : List ℕ) → Type 0
-TellsOfLayouts json status.Done text = IsAccepted json
-TellsOfLayouts json status.Refused text = IsAccepted json
-TellsOfLayouts json status.NotAccepted text = TellsOfFault json text
-TellsOfLayouts json told text = TellsOfReading json told text
 
 -- ---- steps on the way
 

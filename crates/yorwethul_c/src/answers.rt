@@ -9,14 +9,14 @@ ghost use Rattle.module_limits.specs.Nesting.{nested_past};
 ghost use Rattle.yorwethul_c.specs.Answers.{IsGivenIn, deepest_nesting};
 ghost use Rattle.yorwethul_c.specs.Answers.{LacksMemory, Says, SaysOfError, SaysOfUnasked};
 ghost use Rattle.yorwethul_c.specs.Answers.{SaysOfUnwritten, SaysOfWritten, SaysThat};
-ghost use Rattle.yorwethul_c.specs.Answers.{TellsAnyRefusal, TellsOfChecking, TellsOfLayouts};
-ghost use Rattle.yorwethul_c.specs.Answers.{TellsOfReading, TellsOfWriting, WasRead};
+ghost use Rattle.yorwethul_c.specs.Answers.{TellsAnyRefusal, TellsOfChecking, TellsOfReading};
+ghost use Rattle.yorwethul_c.specs.Answers.{TellsOfWriting, WasRead};
 
 use crate::status::{Status, status_of};
 use bitflags::Flags;
 use module_answers::{
-    NoOutcome, Shader, Unasked, WriteOutcome, holder_of, info_within, layout_table, refusal_line,
-    untyped_line, write_decimal_within, write_within,
+    NoOutcome, Shader, Unasked, WriteOutcome, holder_of, info_within, refusal_line, untyped_line,
+    write_decimal_within, write_within,
 };
 use module_positions::{JsonHolder, NESTS_TOO_DEEP, fault_line, nests_too_deep};
 use naga_acceptance::{Unaccepted, unaccepted};
@@ -72,17 +72,6 @@ pub fn checked(alloc: Global, json: &[u8]) -> Answer
 {
     match shader_in(alloc, json) {
         Ok(shader) => checked_shader(alloc, &shader),
-        Err(answer) => answer,
-    }
-}
-
-/// Tells where the members of the structs stand of the module that the JSON holds.
-#[tactic(auto, using(crate::proofs::Told::unread_laid_out))]
-pub fn laid_out(alloc: Global, json: &[u8]) -> Answer
-    ensures { TellsOfLayouts json.now result.status (string_bytes result.text) }
-{
-    match shader_in(alloc, json) {
-        Ok(shader) => laid_out_shader(alloc, &shader),
         Err(answer) => answer,
     }
 }
@@ -283,24 +272,6 @@ fn checked_shader(alloc: Global, shader: &Shader) -> Answer
         None => Answer {
             status: Status::Done,
             text: String::new(alloc),
-        },
-    }
-}
-
-fn laid_out_shader(alloc: Global, shader: &Shader) -> Answer
-    ensures { (json : List ℕ) →
-        WasRead json shader.now.holder shader.now.module shader.now.info →
-        TellsOfLayouts json result.status (string_bytes result.text) }
-{
-    match unaccepted(&shader.module, &shader.info) {
-        Some(fault) => not_accepted(alloc, shader, fault),
-        None => match layout_table(alloc, &shader.module, &shader.info) {
-            Ok(text) => Answer {
-                status: Status::Done,
-                text,
-            },
-            Err(Error::Memory(_)) => out_of_memory(alloc),
-            Err(reason) => told(alloc, Status::Refused, reason),
         },
     }
 }
