@@ -58,11 +58,11 @@ module _ (f : FunctionText) (table : List Availability) (can : CanWrite f) where
   }
 
   selected_form : (base index : ℕ) →
-      expression_has_own_form f.shader.now f.info.now (expression.AccessIndex base index) ≡ true →
+      expression_has_own_form f.known.shader.now f.info.now (expression.AccessIndex base index) ≡ true →
       PartForm f table (Some (expression.AccessIndex base index)) base
   unfolding selector_text
   selected_form base index may =
-      let x = selected f.shader.now f.module_info.now f.info.now base index may in
+      let x = selected f.known.shader.now f.known.info.now f.info.now base index may in
       record {
         part = selected_part x.0;
         is = ap
