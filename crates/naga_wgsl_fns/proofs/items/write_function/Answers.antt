@@ -9,6 +9,13 @@ of-requires g c = record {
   ordered = items_in_order c.args.«module».now c.args.info.now c.requires.accepted;
 }
 
+pub write_by_plan-requires-clause-known : goal.write_by_plan-requires-clause-known
+write_by_plan-requires-clause-known g c = record {
+  accepted = c.requires.accepted;
+  named = c.requires.names;
+  tables = c.in_ok-tables.ensures;
+}
+
 pub write_by_plan-requires-clause-words : goal.write_by_plan-requires-clause-words
 write_by_plan-requires-clause-words g c = c.requires.namer.named.words
 

@@ -1,6 +1,7 @@
 use Rattle.std.proofs.Common.{[], ◌<◌, false, ap, arith, ◌∙◌, length, refl, subst, sym, true, Some}
 use Rattle.std.specs.Option.{option_map, option_map_or, option_to_list}
 use Rattle.naga_ir.specs.Operands.{expression_operands, level_operands}
+use Rattle.naga_ir.specs.declared.expression.Expression.TheVariants.{As, CooperativeLoad}
 use Rattle.std.specs.List.{AllByRecursion}
 use Rattle.naga_words.proofs.Writing.{leaves_as, leaves_last, leaves_more, leaves_start, writes_as}
 use Rattle.naga_words.proofs.Writing.{writes_nothing, writes_then}
@@ -134,14 +135,17 @@ write_own-write_matrix_callee-requires-clause-formed g t c =
 
 pub write_own-returns-in-CooperativeLoad : goal.write_own-returns-in-CooperativeLoad
 write_own-returns-in-CooperativeLoad g t c =
+    let it = c.in-CooperativeLoad in
+    let loaded = CooperativeLoad it.columns it.rows it.role it.data_ in
     let formed =
     written_as c.args.self.now c.requires.can
     c.index.ensures c.requires.handle c.in-CooperativeLoad.is in
     writes_as
-    (sym (typed_row c.args.self.now c.args.scope.now.table _ c.args.handle)
+    (sym (typed_row c.args.self.now c.args.scope.now.table loaded c.args.handle)
     ∙ own_matrix_load c.args.self.now c.args.scope.now.table c.requires.can c.requires.handle formed
     c.index.ensures c.in-CooperativeLoad.is)
-    (writes_then c.write_matrix_callee.ensures (writes_then c.put.ensures c.write_operands.ensures))
+    (writes_then c.write_matrix_callee.ensures
+    (writes_then c.put-in-CooperativeLoad.ensures c.write_operands-in-CooperativeLoad.ensures))
 
 pub write_own-write_swizzle-requires : goal.write_own-write_swizzle-requires
 write_own-write_swizzle-requires g t c κs within =
@@ -203,7 +207,7 @@ write_own-returns-in-None g t c =
       matrix_load = c.in_default.not-CooperativeLoad;
       called = sym c.called_str.ensures ∙ ap (option_map (λ w. w.now)) c.in-None.is;
     }))
-    c.put.ensures
+    c.put-in-None.ensures
 
 pub write_reference-write_local_name-requires-clause-local : goal.write_reference-write_local_name-requires-clause-local
 write_reference-write_local_name-requires-clause-local g t c =
@@ -413,11 +417,12 @@ write_own-write_cast_callee-requires-clause-formed g t c =
 
 pub write_own-returns-in-As : goal.write_own-returns-in-As
 write_own-returns-in-As g t c =
+    let cast = As c.in-As.expr c.in-As.kind c.in-As.convert in
     let allowed =
     written_as c.args.self.now c.requires.can
     c.index.ensures c.requires.handle c.in-As.is in
     writes_as
-    (sym (typed_row c.args.self.now c.args.scope.now.table _ c.args.handle)
+    (sym (typed_row c.args.self.now c.args.scope.now.table cast c.args.handle)
     ∙ own_conversion c.args.self.now c.args.scope.now.table c.requires.can c.requires.handle allowed
     c.index.ensures c.in-As.is)
     (writes_then c.write_cast_callee.ensures (writes_then c.put.ensures c.write_operands.ensures))
@@ -509,8 +514,8 @@ write_sampling-write_sampling_head-requires-clause-image g t c =
     (operands_in c.args.self.now c.requires.can
     c.index.ensures c.in-ImageSample.is c.requires.handle).0.1
 
-pub write_sampling-sampling_str-requires : goal.write_sampling-sampling_str-requires
-write_sampling-sampling_str-requires g t c =
+pub write_sampling-sampling_str-word-requires : goal.write_sampling-sampling_str-word-requires
+write_sampling-sampling_str-word-requires g t c =
     let s = c.in-ImageSample in
     ap (λ b. sampling_has_form s.gather s.level b s.clamp_to_edge) c.is_some-compares.ensures
     ∙ written_as c.args.self.now c.requires.can c.index.ensures c.requires.handle s.is

@@ -7,7 +7,6 @@ use Rattle.naga_wgsl_fns.proofs.ConversionRows.{callee_row, target_fits}
 use Rattle.naga_wgsl_fns.proofs.Preconditions.{converted_is}
 use Rattle.naga_wgsl_fns.proofs.functions.FunctionText.write_cast_callee.Goals as goal
 
--- src/conversions.rt:48:5
 pub write_cast-requires-clause-formed : goal.write_cast-requires-clause-formed
 write_cast-requires-clause-formed g c =
     let self = c.args.self.now in
