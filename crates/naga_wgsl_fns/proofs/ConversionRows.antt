@@ -1,4 +1,5 @@
 -- The text of a conversion, from what is written of it in turn.
+-- Serves `expression`, `write_bitcast`, `write_cast` and `write_cast_callee`.
 use Rattle.std.proofs.Common.{◌≡◌, ℕ, Bool, true, false, List, [], ◌++◌, Option, Some, codes, refl}
 use Rattle.std.proofs.Common.{sym, ap, subst, ◌∙◌}
 use Rattle.std.proofs.lemmas.Option.{same_Some}

@@ -1,5 +1,6 @@
 -- The text of an expression by its kind and by where it stands, and from what is written of it in
 -- turn.
+-- Serves 30 contracts, `write_address` among them.
 use Rattle.module_semantics.specs.ExpressionForms.{expression_has_own_form}
 use Rattle.naga_wgsl_fns.proofs.Preconditions.{IsNoOther, expression_formed, ordered}
 use Rattle.std.proofs.Common.{◌≡◌, ℕ, zero, suc, ◌<◌, Bool, true, false, List, [], ◌∷◌, length}

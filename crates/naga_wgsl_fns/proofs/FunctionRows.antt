@@ -1,5 +1,6 @@
 -- Each function of an accepted module of which all that is written has a form can be written; and the
 -- texts of its parts, from what is written of them in turn.
+-- Serves 17 contracts, `write_answer` among them.
 use Rattle.std.proofs.Common.{◌≡◌, ℕ, ◌+◌, ◌-◌, ◌<◌, ◌≤◌, ◌==◌, zero, suc, add-one, arith, ne_eqb}
 use Rattle.std.proofs.Common.{false, Option, None, Some, refl, sym, ap, subst, ◌∙◌, codes, List, []}
 use Rattle.std.proofs.Common.{◌∷◌, ◌++◌, append_assoc, drop, length, slice_get, slice_index_or}

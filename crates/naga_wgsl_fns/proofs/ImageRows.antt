@@ -1,4 +1,5 @@
 -- The texts of operations on images, from what is written of them in turn.
+-- Serves `expression` and `write_sampling_head`.
 use Rattle.std.proofs.Common.{◌≡◌, ℕ, zero, suc, ◌<◌, Bool, true, false, List, [], ◌∷◌, ◌++◌, codes}
 use Rattle.std.proofs.Common.{Option, Some, None, refl, sym, ap, ap₂, ◌∙◌, arith, length, map}
 use Rattle.std.proofs.Common.{append_assoc, decimal}

@@ -1,5 +1,6 @@
 -- The texts of loads: by whether an atomic is loaded, and of a cooperative matrix from what is written
 -- of it in turn.
+-- Serves `expression`, `write_matrix_callee` and `write_taking`.
 use Rattle.std.proofs.Common.{◌≡◌, ℕ, Bool, true, false, List, [], ◌∷◌, ◌++◌, Some, codes, ap, refl}
 use Rattle.std.proofs.Common.{sym, ◌∙◌}
 use Rattle.std.specs.Prelude.{slice_get, unwrap_or, if◌then◌else◌}

@@ -1,5 +1,6 @@
 -- The names of a function, of its arguments and of its locals by their keys, and those of the functions
 -- that it calls.
+-- Serves `act_str`, `write_argument_name`, `write_function_name` and `write_local_name`.
 use Rattle.std.proofs.Common.{◌≡◌, ℕ, ◌<◌, Some, ap, arith, length, subst, sym}
 use Rattle.std.proofs.lemmas.Option.{slice_get_within}
 use Rattle.module_semantics.proofs.FunctionNumbers.{below_all, callees_within, one_type, type_of_function}

@@ -1,4 +1,5 @@
 -- A part at an index, by what it is taken of and by what stands after that.
+-- Serves 30 contracts, `write_address` among them.
 use Rattle.std.proofs.Common.{◌≡◌, ℕ, Bool, true, false, ◌++◌, List, [], ◌∷◌, Option, Some, None}
 use Rattle.std.proofs.Common.{refl, sym, ap, ◌∙◌, subst}
 use Rattle.std.specs.Prelude.{if◌then◌else◌, slice_get}

@@ -1,4 +1,5 @@
 -- The texts of parts: what they are taken of, and what is chosen.
+-- Serves 13 contracts, `write_in_parentheses` among them.
 use Rattle.std.proofs.Common.{◌≡◌, ℕ, zero, suc, Bool, true, false, List, [], ◌∷◌, ◌++◌, length}
 use Rattle.std.proofs.Common.{Option, Some, None, codes, refl, sym, ap, ◌∙◌, get_or, map}
 use Rattle.std.proofs.lemmas.List.{append-nil}

@@ -1,4 +1,5 @@
 -- What the parts of a function want, from what the function wants.
+-- Serves 45 contracts, `component` among them.
 use Rattle.std.proofs.Common.{Vec, Global, ◌≡◌, ℕ, ◌+◌, Bool, ◌<◌, true, false, List, [], ◌++◌}
 use Rattle.std.proofs.Common.{codes, length, Option, Some, None, refl, sym, ap, subst, ◌∙◌, IsTrue}
 use Rattle.std.proofs.Common.{arith, max, ◌∷◌}

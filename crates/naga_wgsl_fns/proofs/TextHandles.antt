@@ -1,4 +1,5 @@
 -- The handles that a function's statements and locals write by themselves are in its text.
+-- Serves `write_act_line`, `write_emit`, `write_local` and `write_statements`.
 use Rattle.naga_form.proofs.statements.WrittenHandles.{all_among, written_are_closed}
 use Rattle.module_semantics.specs.Written.{block_lets, simple_lets, IsWrittenIn, block_handles}
 use Rattle.module_semantics.specs.Written.{cases_handles, simple_handles, statement_handles}

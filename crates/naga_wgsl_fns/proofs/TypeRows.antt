@@ -1,4 +1,5 @@
 -- What is said of a type's spelling in a function, for types that have a form.
+-- Serves `write_annotation`, `write_type` and `write_type_of`.
 use Rattle.std.proofs.Common.{◌≡◌, ℕ, codes, Some}
 use Rattle.std.proofs.Common.{refl, length}
 use Rattle.std.specs.Prelude.{IsTrue}

@@ -1,4 +1,5 @@
 -- The texts of variables of the module, as values and as references.
+-- Serves 32 contracts, `write_global_address` among them.
 use Rattle.std.proofs.Common.{◌≡◌, ℕ, true, false, List, codes, sym, ap, ◌∙◌}
 use Rattle.std.specs.Prelude.{if◌then◌else◌}
 use Rattle.naga_form.specs.Expressions.{is_handle_variable}
