@@ -27,8 +27,8 @@ shape_of k = function_shape k.whole.shader.now k.whole.info.now k.function.now k
 -- the same under names that tell nothing: the rules of scope don't look at names
 abbrev pub naming_of : KnownFunction → Naming
 naming_of k =
-    function_naming (λ key. None) (λ number. []) k.whole.shader.now k.whole.info.now 0 k.function.now
-    k.info.now
+    function_naming (λ key. None) (λ number. []) k.whole.shader.now k.whole.info.now 0
+    k.function.now k.info.now
 
 -- a `let` binds the handle where it is emitted
 abbrev pub bound_in : KnownFunction → (handle : ℕ) → Bool

@@ -129,7 +129,8 @@ IsPlanFor explicit k plan =
 
 abbrev pub IsRefusalToPlanFor : (explicit : Bool) → KnownFunction → Names → PlanError → Type 0
 IsRefusalToPlanFor explicit k namer error =
-    IsRefusalToPlan explicit k.whole.shader.now k.whole.info.now k.function.now k.info.now namer error
+    IsRefusalToPlan explicit k.whole.shader.now k.whole.info.now k.function.now k.info.now namer
+    error
 
 -- a plan of the function with this number, and why there is none
 abbrev pub IsPlanOf : (explicit : Bool) → Module → ModuleInfo → (number : ℕ) → Planned → Type 0

@@ -11,8 +11,8 @@ use std::collections::HashMap;
 /// A module that is written, with what is known of it and how it is written. It is made once for a
 /// text, and each function is planned and written by it.
 ///
-/// What is asked of it is that the module is accepted with what is known of it, and has its names in
-/// the map and what is looked up of it in the tables.
+/// What is asked of it is that the module is accepted with what is known of it, and has its names
+/// in the map and what is looked up of it in the tables.
 #[derive(Clone, Copy)]
 pub struct KnownModule<'a> {
     /// Where memory comes from.

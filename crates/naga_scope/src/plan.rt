@@ -105,9 +105,9 @@ impl Model for Plan {
 
 impl Plan {
     /// The plan of this function of the module, for `let`s that tell types where the flags ask for
-    /// it. Where the rules of scope don't hold in the function, a statement, a written expression or a
-    /// type that is spelled has no form, a label gets no name, or there is no memory, there is no
-    /// plan.
+    /// it. Where the rules of scope don't hold in the function, a statement, a written expression
+    /// or a type that is spelled has no form, a label gets no name, or there is no memory, there is
+    /// no plan.
     ///
     /// The namer names the labels that front ends gave to what the function emits, in the order of
     /// the text. Where there is no plan, it has named some first ones of them.

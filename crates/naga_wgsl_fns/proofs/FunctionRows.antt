@@ -166,9 +166,11 @@ result_row f = by f.function.now.result
 -- what is left of the arguments from this number on, with the parenthesis after the last
 abbrev pub arguments_left : FunctionText → ℕ → List FunctionArgument → List ℕ
 arguments_left f zero more =
-    text (parameters_pieces (parameters_form (module_names f.known.shader.now) f.known.shader.now (number f) zero more))
+    text (parameters_pieces
+    (parameters_form (module_names f.known.shader.now) f.known.shader.now (number f) zero more))
 arguments_left f (suc n) more =
-    text (more_parameters_pieces (parameters_form (module_names f.known.shader.now) f.known.shader.now (number f) (suc n) more))
+    text (more_parameters_pieces
+    (parameters_form (module_names f.known.shader.now) f.known.shader.now (number f) (suc n) more))
 
 pub arguments_start : (f : FunctionText) → arguments_text f ≡ arguments_left f 0 f.function.now.arguments.items
 unfolding arguments_text
@@ -192,7 +194,9 @@ arguments_row f n a more = by n
         more_parameters_pieces (form (n + 1) more)) ≡ argument_text f n a ++ arguments_left f
         (n + 1) more
     split n =
-        text-append (parameter_pieces (parameter_form (module_names f.known.shader.now) f.known.shader.now (number f) n a))
+        text-append
+        (parameter_pieces
+        (parameter_form (module_names f.known.shader.now) f.known.shader.now (number f) n a))
         (more_parameters_pieces (form (n + 1) more))
         ∙ ap (λ t. argument_text f n a ++ t) (later n)
 

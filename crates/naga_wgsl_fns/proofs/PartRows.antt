@@ -460,7 +460,8 @@ signed_row f table handle can within =
         of_expression (expression.AccessIndex base index) at =
             parted (Some (expression.AccessIndex base index)) at base refl
         of_expression (expression.GlobalVariable v) at =
-            (variable_unsigned (is_handle_variable f.known.shader.now v) (global_name (module_names f.known.shader.now) v)).0
+            (variable_unsigned (is_handle_variable f.known.shader.now v)
+            (global_name (module_names f.known.shader.now) v)).0
         of_expression (expression.Load pointer) at =
             loaded pointer (is_atomic_pointer (context f) pointer)
         of_expression (expression.ImageQuery image query) at =

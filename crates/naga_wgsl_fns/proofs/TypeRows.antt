@@ -34,4 +34,5 @@ pub resolution_known : (f : FunctionText) (can : CanWrite f) (r : TypeResolution
     known_text (resolution_segments (names_context f.known.shader.now.types (names_in f.known.names.now)) r) ≡
     Some (resolution_text f r)
 unfolding resolution_text
-resolution_known f can = resolution_spelled f.known.shader.now (can_of f can) (names_in f.known.names.now) can.known.named
+resolution_known f can =
+    resolution_spelled f.known.shader.now (can_of f can) (names_in f.known.names.now) can.known.named

@@ -146,8 +146,9 @@ load_text f table pointer =
 abbrev pub is_atomic_at : List Type_ → (ty : ℕ) → Bool
 is_atomic_at types ty = option_map_or is_atomic (type_with types ty) false
 
--- what an expression is called by whose operator has a type: a conversion by the type of its value, or
--- `bitcast` to that, and the load of a cooperative matrix by its word with the matrix's type
+-- what an expression is called by whose operator has a type: a conversion by the type of its
+-- value, or `bitcast` to that, and the load of a cooperative matrix by its word with the matrix's
+-- type
 abbrev pub typed_callee : FunctionText → ir.Expression → TypeSpecifier
 typed_callee f e = unwrap_or (operator_type (context f) (type_names_of f) e) (Named [])
 

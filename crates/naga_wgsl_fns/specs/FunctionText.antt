@@ -62,7 +62,8 @@ expressions f = f.function.now.expressions
 
 -- the same with their context
 abbrev pub source : FunctionText → Source
-source f = function_source f.known.flags f.known.shader.now f.known.info.now f.function.now f.info.now
+source f =
+    function_source f.known.flags f.known.shader.now f.known.info.now f.function.now f.info.now
 
 abbrev pub context : FunctionText → ExpressionContext
 context f = (source f).declared.context
@@ -74,8 +75,8 @@ type_names_of f = type_names f.known.shader.now
 -- the type that the `let` of a handle tells, if it tells one
 abbrev pub let_annotation : FunctionText → (handle : ℕ) → Option TypeSpecifier
 let_annotation f handle =
-    annotated_type (annotates_types f.known.flags) f.known.shader.now (type_names f.known.shader.now) f.info.now
-    handle
+    annotated_type (annotates_types f.known.flags) f.known.shader.now
+    (type_names f.known.shader.now) f.info.now handle
 
 -- the handle is written in the function, and has an expression
 pub record IsInText (f : FunctionText) (handle : ℕ) : Type 0 where
@@ -120,11 +121,11 @@ pub record CanWriteCases (f : FunctionText) (cases : CaseTrees) : Type 0 where
   pub written : AreInText f (cases_handles (bound f) cases)
   pub lets : AreLets f (cases_lets (bound f) cases)
 
--- What is asked of its module holds, of which it is a function, or that of an entry point. All that
--- it names is there, if it may call the functions before it, and of each of its expressions one type
--- is known. Each expression that is written and each type that is spelled has a form, and so have
--- the bindings of what it takes and gives, and its stage. Its names that front ends gave are there,
--- in the order of the text, and told apart in 64 bits.
+-- What is asked of its module holds, of which it is a function, or that of an entry point. All
+-- that it names is there, if it may call the functions before it, and of each of its expressions
+-- one type is known. Each expression that is written and each type that is spelled has a form, and
+-- so have the bindings of what it takes and gives, and its stage. Its names that front ends gave
+-- are there, in the order of the text, and told apart in 64 bits.
 pub record CanWrite (f : FunctionText) : Type 0 where
   pub known : IsKnownModule f.known
   pub there : IsFunctionOf f.ty f.known.shader.now

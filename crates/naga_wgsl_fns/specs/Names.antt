@@ -14,7 +14,8 @@ name_of_function f = function_name f.known.shader.now (module_names f.known.shad
 
 -- its argument with this number
 unfoldable pub name_of_argument : FunctionText → (n : ℕ) → List ℕ
-name_of_argument f n = argument_name f.known.shader.now (module_names f.known.shader.now) (number f) n
+name_of_argument f n =
+    argument_name f.known.shader.now (module_names f.known.shader.now) (number f) n
 
 -- an expression that a `let` binds under this name
 unfoldable pub bound_text : FunctionText → (handle : ℕ) → BoundName → List ℕ
@@ -27,7 +28,8 @@ next_name_text f given handle = bound_name (naming f) given handle
 
 -- its local with this handle
 unfoldable pub name_of_local : FunctionText → (local : ℕ) → List ℕ
-name_of_local f local = local_name f.known.shader.now (module_names f.known.shader.now) (number f) local
+name_of_local f local =
+    local_name f.known.shader.now (module_names f.known.shader.now) (number f) local
 
 -- a variable of the module
 unfoldable pub name_of_global : FunctionText → (variable : ℕ) → List ℕ

@@ -28,7 +28,8 @@ impl FunctionText<'_> {
         out: &mut Output<'_, W>,
     )
         requires can { CanWrite self.now }
-        requires formed { IsTrue (expression_has_own_form self.now.known.shader.now self.now.info.now
+        requires formed { IsTrue
+            (expression_has_own_form self.now.known.shader.now self.now.info.now
             (As operand kind convert)) }
         ensures { Writes W.text W.failures out.old out.new
             (callee_text self.now (As operand kind convert)) }

@@ -240,7 +240,8 @@ impl FunctionText<'_> {
     )
         requires can { CanWrite self.now }
         requires handle { IsInText self.now handle }
-        requires formed { IsTrue (has_type_form self.now.known.shader.now.types (resolution.Handle ty)) }
+        requires formed { IsTrue
+            (has_type_form self.now.known.shader.now.types (resolution.Handle ty)) }
         ensures { Writes W.text W.failures out.old out.new
             (made_text self.now scope.now.table (made_type self.now ty) handle) }
     {

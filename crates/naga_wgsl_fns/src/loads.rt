@@ -74,7 +74,8 @@ impl FunctionText<'_> {
         out: &mut Output<'_, W>,
     )
         requires can { CanWrite self.now }
-        requires formed { IsTrue (expression_has_own_form self.now.known.shader.now self.now.info.now
+        requires formed { IsTrue
+            (expression_has_own_form self.now.known.shader.now self.now.info.now
             (CooperativeLoad columns rows role memory)) }
         ensures { Writes W.text W.failures out.old out.new
             (callee_text self.now (CooperativeLoad columns rows role memory)) }

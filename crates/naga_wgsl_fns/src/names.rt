@@ -76,8 +76,8 @@ impl FunctionText<'_> {
         index: u32,
         out: &mut Output<'_, W>,
     )
-        requires { names_in self.now.known.names.now (key.StructMember whole index)
-            ≡ Some (name_in (module_names self.now.known.shader.now) (key.StructMember whole index)) }
+        requires { names_in self.now.known.names.now (key.StructMember whole index) ≡ Some
+            (name_in (module_names self.now.known.shader.now) (key.StructMember whole index)) }
         ensures { Writes W.text W.failures out.old out.new
             (name_in (module_names self.now.known.shader.now) (key.StructMember whole index)) }
     {
@@ -134,7 +134,8 @@ impl FunctionText<'_> {
     pub(crate) fn callee_str(&self, function: Handle<Function>) -> &str
         requires { names_in self.now.known.names.now (key.Function function)
             ≡ Some (name_in (module_names self.now.known.shader.now) (key.Function function)) }
-        ensures { result.now ≡ name_in (module_names self.now.known.shader.now) (key.Function function) }
+        ensures { result.now
+            ≡ name_in (module_names self.now.known.shader.now) (key.Function function) }
     {
         match self.known.names.get(&NameKey::Function(function)) {
             Some(name) => name.as_str(),

@@ -182,7 +182,8 @@ impl FunctionText<'_> {
         out: &mut Output<'_, W>,
     )
         requires can { CanWrite self.now }
-        requires has_form { IsTrue (expression_has_own_form self.now.known.shader.now self.now.info.now
+        requires has_form { IsTrue
+            (expression_has_own_form self.now.known.shader.now self.now.info.now
             (AccessIndex base index)) }
         ensures { Writes W.text W.failures out.old out.new (selector_text self.now base index) }
     {
@@ -200,8 +201,8 @@ impl FunctionText<'_> {
         index: u32,
         out: &mut Output<'_, W>,
     )
-        requires named { names_in self.now.known.names.now (key.StructMember whole index)
-            ≡ Some (name_in (module_names self.now.known.shader.now) (key.StructMember whole index)) }
+        requires named { names_in self.now.known.names.now (key.StructMember whole index) ≡ Some
+            (name_in (module_names self.now.known.shader.now) (key.StructMember whole index)) }
         ensures { Writes W.text W.failures out.old out.new (named_member_text self.now whole index) }
     {
         out.put(".");
@@ -216,7 +217,8 @@ impl FunctionText<'_> {
         out: &mut Output<'_, W>,
     )
         requires can { CanWrite self.now }
-        requires has_form { IsTrue (expression_has_own_form self.now.known.shader.now self.now.info.now
+        requires has_form { IsTrue
+            (expression_has_own_form self.now.known.shader.now self.now.info.now
             (AccessIndex base index)) }
         requires no_member { struct_known self.now base ≡ None }
         ensures { Writes W.text W.failures out.old out.new (selector_text self.now base index) }
@@ -242,7 +244,8 @@ impl FunctionText<'_> {
     /// The letter of a component of a vector, or of one that is pointed at. Other parts have none.
     fn component(&self, base: Handle<Expression>, index: u32) -> Option<&'static str>
         requires can { CanWrite self.now }
-        requires has_form { IsTrue (expression_has_own_form self.now.known.shader.now self.now.info.now
+        requires has_form { IsTrue
+            (expression_has_own_form self.now.known.shader.now self.now.info.now
             (AccessIndex base index)) }
         requires no_member { struct_known self.now base ≡ None }
         ensures { part_selector (source self.now).declared base index

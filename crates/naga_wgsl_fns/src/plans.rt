@@ -33,10 +33,10 @@ pub enum Unplanned {
     Memory(AllocError),
 }
 
-/// The plan of a function: the rules of scope hold in it, each statement and each written expression
-/// has a form, each type that its text spells can be spelled, and the labels that front ends gave in
-/// it have names, which `namer` has given them in the order of the text. Its words and prefixes are
-/// those of WGSL.
+/// The plan of a function: the rules of scope hold in it, each statement and each written
+/// expression has a form, each type that its text spells can be spelled, and the labels that front
+/// ends gave in it have names, which `namer` has given them in the order of the text. Its words and
+/// prefixes are those of WGSL.
 ///
 /// Else what keeps the function from having one is told by name, and `namer` has named some first
 /// ones of its labels.

@@ -21,7 +21,8 @@ impl FunctionText<'_> {
     /// The type with this handle.
     pub(crate) fn write_type<W: TextSink>(&self, ty: Handle<Type_>, out: &mut Output<'_, W>)
         requires can { CanWrite self.now }
-        requires formed { IsTrue (has_type_form self.now.known.shader.now.types (resolution.Handle ty)) }
+        requires formed { IsTrue
+            (has_type_form self.now.known.shader.now.types (resolution.Handle ty)) }
         ensures { Writes W.text W.failures out.old out.new (type_text self.now ty) }
     {
         self.of_module().write_type(self.known.alloc, ty, out);

@@ -113,7 +113,8 @@ impl StructText<'_> {
         out: &mut Output<'_, W>,
     )
         requires can { CanDeclareStruct self.now }
-        requires there { IsDeclaredMember self.now.text.shader.now self.now.handle number member.now }
+        requires there { IsDeclaredMember self.now.text.shader.now self.now.handle number
+            member.now }
         requires size { size ≡ written_size self.now.text.shader.now self.now.handle number }
         ensures { Writes W.text W.failures out.old out.new
             (member_text self.now.text.shader.now self.now.handle number member.now) }
@@ -126,9 +127,9 @@ impl StructText<'_> {
         out.put(",\n");
     }
 
-    /// The size that this member is given: the bytes up to what stands after it in the module, where
-    /// WGSL's rules alone would have that begin earlier. A struct that has no layout is written
-    /// without sizes.
+    /// The size that this member is given: the bytes up to what stands after it in the module,
+    /// where WGSL's rules alone would have that begin earlier. A struct that has no layout is
+    /// written without sizes.
     fn given_size(&self, number: u32, member: &StructMember) -> Option<u32>
         requires can { CanDeclareStruct self.now }
         requires there { slice_get self.now.members.now number ≡ Some member.now }

@@ -36,7 +36,8 @@ returns-then-is_bound c =
     ∙ ap (λ t. is_new (availability_of (λ number. []) (numbered_name h) t)) c.availability.ensures)
     ∙ c.if-not-is_new.false in
     let kind = sym (c.is_emittable.ensures ∙ ap is_emittable_kind c.kind_at.ensures) ∙ c.if-not-is_emittable.false in
-    checked_by k.whole.shader.now k.whole.info.now k.function.now k.info.now c.args.number h (handles_at c.args.scope.now)
+    checked_by k.whole.shader.now k.whole.info.now k.function.now k.info.now c.args.number h
+    (handles_at c.args.scope.now)
     c.requires.at.ordered c.requires.at.held true c.check_bound.result new kind
     (sym c.if-is_bound.true ∙ c.requires.bound) c.check_bound.ensures
 
