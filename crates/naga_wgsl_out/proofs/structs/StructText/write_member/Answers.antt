@@ -11,6 +11,9 @@ write_optional_binding-requires g c =
     member_has_form c.args.self.now.text c.requires.can.can c.args.self.now.handle c.args.number c.args.member.now
     c.requires.there
 
+pub write_typed-requires-clause-can : goal.write_typed-requires-clause-can
+write_typed-requires-clause-can g c = c.requires.can.can.can
+
 pub write_typed-requires-clause-named : goal.write_typed-requires-clause-named
 write_typed-requires-clause-named g c =
     member_is_named c.args.self.now.text c.requires.can.can c.args.self.now.handle c.args.number c.args.member.now
