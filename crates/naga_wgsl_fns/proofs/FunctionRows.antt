@@ -6,7 +6,7 @@ use Rattle.std.proofs.Common.{false, Option, None, Some, refl, sym, ap, subst, �
 use Rattle.std.proofs.Common.{◌∷◌, ◌++◌, append_assoc, drop, length, slice_get, slice_index_or}
 use Rattle.std.proofs.Common.{get_or, map, string_bytes, ◌^◌}
 use Rattle.std.specs.declared.string.String.{String}
-use Rattle.std.specs.Prelude.{if◌then◌else◌, unwrap_or, vec_len, IsTrue}
+use Rattle.std.specs.Prelude.{if◌then◌else◌, unwrap_or, vec_len}
 use Rattle.std.specs.Option.{option_map_or}
 use Rattle.std.proofs.lemmas.Bool.{lt-ltb}
 use Rattle.std.proofs.lemmas.List.{append-nil, drop_all}

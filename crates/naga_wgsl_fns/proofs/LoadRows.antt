@@ -27,6 +27,7 @@ use Rattle.naga_ir.specs.declared.types.Scalar.{Scalar}
 use Rattle.naga_ir.specs.declared.types.TypeInner.{TypeInner}
 use Rattle.naga_ir.specs.declared.types.TypeInner.TheVariants as inner
 use Rattle.naga_scope.specs.declared.points.Availability.{Availability}
+use Rattle.naga_words.specs.Output.{joined_texts}
 use Rattle.naga_wgsl_fns.proofs.ExpressionRows.{own_typed}
 use Rattle.naga_wgsl_fns.specs.Expressions.{applied_text, callee_text, called_text, load_text}
 use Rattle.naga_wgsl_fns.specs.Expressions.{load_word, made_text, own_text, reference_text}
