@@ -17,7 +17,7 @@ const READINGS: &[(&str, &str, &str)] = &[
         "{}",
         "Literal(F32(1266679808))",
     ),
-    // the double that this text is read as is halfway to the next number of four bytes
+    // the double nearest to this number is halfway to the next number of four bytes
     (
         r#"{"global_expressions": [{"Literal": {"F32": 7.038531e-26}}]}"#,
         "{}",

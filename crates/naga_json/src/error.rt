@@ -1,5 +1,7 @@
 //! Why nothing was read.
 
+ghost use Rattle.naga_json.specs.Said.{IsRefusal};
+
 use std::alloc::{AllocError, AllocFailed, Global};
 use std::error::Error;
 use std::fmt;
@@ -145,7 +147,9 @@ impl ReadError {
     }
 
     /// The same, seen from the value around it.
-    pub(crate) fn within(self, alloc: Global, step: &str) -> ReadError {
+    pub(crate) fn within(self, alloc: Global, step: &str) -> ReadError
+        ensures { IsRefusal result → IsRefusal self }
+    {
         match self {
             ReadError::Misfit { position, problem } => match joined(
                 alloc,
@@ -194,12 +198,22 @@ fn joined(alloc: Global, step: &str, position: &str) -> Result<String, AllocErro
 }
 
 impl<T: Drop> From<AllocFailed<T>> for ReadError {
+    ghost use Rattle.std.specs.Prelude.{◌≡◌};
+    ghost use Rattle.naga_json.specs.declared.error.ReadError.TheVariants.{OutOfMemory};
+
+    ghost from_gives = { λ _ e. e ≡ OutOfMemory };
+
     fn from(_failed: AllocFailed<T>) -> ReadError {
         ReadError::OutOfMemory
     }
 }
 
 impl From<AllocError> for ReadError {
+    ghost use Rattle.std.specs.Prelude.{◌≡◌};
+    ghost use Rattle.naga_json.specs.declared.error.ReadError.TheVariants.{OutOfMemory};
+
+    ghost from_gives = { λ _ e. e ≡ OutOfMemory };
+
     fn from(_error: AllocError) -> ReadError {
         ReadError::OutOfMemory
     }

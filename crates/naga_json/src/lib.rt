@@ -18,8 +18,8 @@
 //! - Flags are their names, as `"LOAD | STORE"`, or their bits, as `3`.
 //! - A float is a number. What JSON has no number for is given by its bits, as
 //!   `{"F32": {"bits": 2139095040}}` for the infinity. An `F16` is given by its bits, as 15360 or
-//!   `{"bits": 15360}`. An `F32` is the nearest to the double that its number is; halfway between
-//!   two it is the one whose shortest text tells that double. One beyond its range is refused.
+//!   `{"bits": 15360}`. An `F32` or `F64` is the nearest to its number. One beyond its range is
+//!   refused.
 //! - `named_expressions` is an object, read in the order of its members' numbers.
 //! - `predeclared_types`, whose keys are no texts, is a list of pairs `[key, handle]`.
 //! - `workgroup_size_overrides` is null or a list of three, each null or one of the module's own

@@ -1,9 +1,13 @@
 //! What is read: from a text, or from JSON that a caller parsed who wants more of it.
 
 ghost use Rattle.std.specs.Prelude.{◌≡◌, IfOk, IsTrue, None};
+ghost use Rattle.json.specs.Value.{value_view};
+ghost use Rattle.naga_json.specs.Infos.{module_info_said, text_info_said};
+ghost use Rattle.naga_json.specs.Said.{Gives};
+ghost use Rattle.naga_json.specs.Seen.{seen_module_info};
 
 use crate::error::ReadError;
-use crate::shape::{FromJson, is_object, member};
+use crate::shape::{FromJson, FromJsonUntold, is_object, member, optional_member, untold_member};
 use crate::text::parse;
 use json::{Scratch, Value};
 use naga_info::ModuleInfo;
@@ -22,7 +26,9 @@ pub fn read_module(alloc: Global, text: &str) -> Result<Module, ReadError> {
 
 /// Reads what is known of a module: `read_info(alloc, r#"{"functions": [[0, 0]]}"#)`. It fails as
 /// [`read_module`] does. Whether it fits a module is not asked.
-pub fn read_info(alloc: Global, text: &str) -> Result<ModuleInfo, ReadError> {
+pub fn read_info(alloc: Global, text: &str) -> Result<ModuleInfo, ReadError>
+    ensures { Gives seen_module_info (text_info_said text.now) result }
+{
     let mut scratch = Scratch::new(alloc);
     let value = parse(alloc, text, &mut scratch)?;
     info_of(alloc, &value)
@@ -70,19 +76,21 @@ pub fn read_given(alloc: Global, text: &str) -> Result<Given, ReadError>
 /// Reads a module from JSON that was parsed before. It fails as [`read_module`] does, but there is
 /// always JSON. Its blocks may nest 64 deep, more than those of any text.
 pub fn module_of(alloc: Global, value: &Value) -> Result<Module, ReadError> {
-    Module::from_json(alloc, value)
+    Module::from_json_untold(alloc, value)
 }
 
 /// Reads what is known of a module from JSON that was parsed before. It fails as [`module_of`]
 /// does.
-pub fn info_of(alloc: Global, value: &Value) -> Result<ModuleInfo, ReadError> {
+pub fn info_of(alloc: Global, value: &Value) -> Result<ModuleInfo, ReadError>
+    ensures { Gives seen_module_info (module_info_said (value_view value.now)) result }
+{
     ModuleInfo::from_json(alloc, value)
 }
 
 /// Reads what [`read_known`] reads from JSON that was parsed before. It fails as [`module_of`]
 /// does.
 pub fn known_of(alloc: Global, value: &Value) -> Result<Known, ReadError> {
-    let module = member(alloc, value, "module")?;
+    let module = untold_member(alloc, value, "module")?;
     let info = member(alloc, value, "info")?;
     Ok(Known { module, info })
 }
@@ -100,8 +108,8 @@ pub fn given_of(alloc: Global, value: &Value) -> Result<Given, ReadError>
             is_bare: true,
         });
     }
-    let module = member(alloc, value, "module")?;
-    let info: Option<ModuleInfo> = member(alloc, value, "info")?;
+    let module = untold_member(alloc, value, "module")?;
+    let info: Option<ModuleInfo> = optional_member(alloc, value, "info")?;
     Ok(Given {
         module,
         info,
