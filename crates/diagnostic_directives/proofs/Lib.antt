@@ -1,0 +1,4 @@
+mod Chains
+mod DirectiveExamples
+mod Keeping
+mod Walking

@@ -1,0 +1,124 @@
+//! The filters that hold in a module, from its leaf to the outermost.
+
+ghost use Rattle.std.specs.Prelude.{◌≡◌, ◌++◌, ◌∷◌, [], IfErr, IfOk, List, OnOk, codes};
+ghost use Rattle.std.specs.Prelude.{string_bytes};
+ghost use Rattle.naga_ir.specs.declared.diagnostics.DiagnosticFilter as ir;
+ghost use Rattle.naga_words.specs.Diagnostics.{severity_word};
+ghost use Rattle.diagnostic_directives.specs.Directives.{HasNoDirectives, with_empty_line};
+ghost use Rattle.diagnostic_directives.specs.Filters.{module_chain};
+ghost use Rattle.diagnostic_directives.specs.Found.{NotAdded, Tells, joined_backwards};
+
+use crate::error::DirectiveError;
+use crate::names::has_name;
+use naga_ir::{DiagnosticFilter, DiagnosticFilterNode, Handle, ItemIndex, Module, Severity};
+use naga_words::diagnostics::DisplayWgslIdent;
+use std::alloc::{AllocError, Global};
+use std::collections::BTreeSet;
+
+/// Directives that are in force, by the filters of a chain that were met so far.
+#[derive(Drop)]
+pub(crate) struct Found {
+    /// The directives, of which the outermost comes last.
+    lines: Vec<String>,
+    /// The names of the rules that were met.
+    rules: BTreeSet<String>,
+}
+
+/// The directives of the module.
+///
+/// Parents stand before their filters, so that one pass from the last filter to the first meets all
+/// of the chain.
+pub(crate) fn found_directives(alloc: Global, module: &Module) -> Result<Found, DirectiveError>
+    ensures ok { IfOk result (Tells (module_chain «module».now)) }
+    ensures err { IfErr result (HasNoDirectives «module».now) }
+{
+    let filters = &module.diagnostic_filters;
+    let mut found = Found::new(alloc);
+    let mut last = module.diagnostic_filter_leaf;
+    for index in (0..filters.len()).rev() {
+        let here = ItemIndex::from_index(index);
+        if last == Some(here) {
+            let node = &filters[here];
+            found.add(alloc, here, &node.inner)?;
+            last = node.parent;
+        }
+    }
+    Ok(found)
+}
+
+impl Found {
+    /// None are found yet. It takes no memory.
+    fn new(alloc: Global) -> Self
+        ensures { Tells [] result }
+    {
+        Found {
+            lines: Vec::new(alloc),
+            rules: BTreeSet::new(alloc),
+        }
+    }
+
+    /// Adds the directive of the filter here, unless a filter of the same rule was met.
+    fn add(
+        &mut self,
+        alloc: Global,
+        here: Handle<DiagnosticFilterNode>,
+        filter: &DiagnosticFilter,
+    ) -> Result<(), DirectiveError>
+        ensures ok { (met : List ir.DiagnosticFilter) → Tells met self.old →
+            OnOk result (Tells (filter.now ∷ met) self.new) }
+        ensures err { IfErr result (NotAdded self.old here filter.now) }
+    {
+        let rule = &filter.triggering_rule;
+        let name = rule.display_wgsl_ident().to_string(alloc)?;
+        if self.rules.contains(name.as_str()) {
+            return Ok(());
+        }
+        if !has_name(alloc, rule) {
+            return Err(DirectiveError::RuleName(here));
+        }
+        let line = directive_line(alloc, filter.new_severity, name.as_str())?;
+        self.lines.push(line)?;
+        self.rules.insert(name)?;
+        Ok(())
+    }
+
+    /// The directives, the outermost first, with an empty line after them, if there are any.
+    pub(crate) fn text(self, alloc: Global) -> Result<String, AllocError>
+        ensures { IfOk result (λ text. string_bytes text
+            ≡ with_empty_line (joined_backwards self.lines.items)) }
+    {
+        let Found {
+            mut lines,
+            rules: _,
+        } = self;
+        let mut text = String::new(alloc);
+        while let Some(line) = lines.pop() {
+            text.push_str(line.as_str())?;
+        }
+        if !text.is_empty() {
+            text.push_str("\n")?;
+        }
+        Ok(text)
+    }
+}
+
+/// The directive for a rule of this name, as a line.
+fn directive_line(alloc: Global, severity: Severity, name: &str) -> Result<String, AllocError>
+    ensures { IfOk result (λ line. string_bytes line ≡ codes "diagnostic("
+        ++ (severity_word severity ++ (codes ", " ++ (name.now ++ codes ");\n")))) }
+{
+    let severity = severity_word(severity);
+    format!(in alloc; "diagnostic({severity}, {name});\n")
+}
+
+/// WGSL's word for how bad a diagnostic is.
+fn severity_word(severity: Severity) -> &'static str
+    ensures { result.now ≡ severity_word severity }
+{
+    match severity {
+        Severity::Off => "off",
+        Severity::Info => "info",
+        Severity::Warning => "warning",
+        Severity::Error => "error",
+    }
+}
