@@ -11,4 +11,5 @@ pub mod Types
 pub mod Expressions
 pub mod Statements
 pub mod Declarations
+pub mod Diagnostics
 pub mod Infos

@@ -1,16 +1,19 @@
 //! Functions, and what modules declare.
 
-ghost use Rattle.std.specs.Prelude.{ℕ, List};
+ghost use Rattle.std.specs.Prelude.{◌≡◌, ℕ, List, IfOk, Some};
+ghost use Rattle.json.specs.Value.{value_view};
 ghost use Rattle.naga_json.specs.Declarations.{shader_stage_said, constant_said, override_said};
 ghost use Rattle.naga_json.specs.Declarations.{global_variable_said, local_variable_said};
 ghost use Rattle.naga_json.specs.Declarations.{function_argument_said, function_result_said};
 ghost use Rattle.naga_json.specs.Declarations.{mesh_stage_info_said};
+ghost use Rattle.naga_json.specs.Diagnostics.{filters_said};
 ghost use Rattle.naga_json.specs.Numbers.{unsigned_said};
 ghost use Rattle.naga_json.specs.Said.{same, tuple_said};
 ghost use Rattle.naga_json.specs.Seen.{SeenArgument, SeenConstant, SeenGlobal, SeenLocal};
-ghost use Rattle.naga_json.specs.Seen.{SeenOverride, seen_argument, seen_constant, seen_global};
-ghost use Rattle.naga_json.specs.Seen.{seen_local, seen_override};
+ghost use Rattle.naga_json.specs.Seen.{SeenOverride, filters_of, seen_argument, seen_constant};
+ghost use Rattle.naga_json.specs.Seen.{seen_global, seen_local, seen_override};
 
+use crate::diagnostics::filters_of;
 use crate::error::{JsonKind, Problem, ReadError};
 use crate::let_be;
 use crate::shape::{
@@ -371,7 +374,7 @@ impl FromJsonUntold for SpecialTypes {
     }
 }
 
-/// The members of [`Function`].
+/// The members of [`Function`], and the leaf of its filters, which is looked at with the module's.
 const FUNCTION_MEMBERS: &[&str] = &[
     "name",
     "result",
@@ -380,11 +383,12 @@ const FUNCTION_MEMBERS: &[&str] = &[
     "expressions",
     "named_expressions",
     "body",
+    "diagnostic_filter_leaf",
 ];
 
 impl FromJsonUntold for Function {
     fn from_json_untold(alloc: Global, value: &Value) -> Result<Function, ReadError> {
-        expect_members_beside(alloc, value, FUNCTION_MEMBERS, let_be::OF_FUNCTION)?;
+        expect_members(alloc, value, FUNCTION_MEMBERS)?;
         let mut function = Function::new(alloc);
         fill_function(alloc, value, &mut function)?;
         Ok(function)
@@ -421,13 +425,20 @@ const MODULE_MEMBERS: &[&str] = &[
     "global_expressions",
     "functions",
     "entry_points",
+    "diagnostic_filters",
+    "diagnostic_filter_leaf",
 ];
 
 impl FromJsonUntold for Module {
-    fn from_json_untold(alloc: Global, value: &Value) -> Result<Module, ReadError> {
+    fn from_json_untold(alloc: Global, value: &Value) -> Result<Module, ReadError>
+        ensures { IfOk result (λ m. filters_said (value_view value.now) ≡ Some (filters_of m)) }
+    {
         expect_members_beside(alloc, value, MODULE_MEMBERS, let_be::OF_MODULE)?;
         let mut module = Module::new(alloc);
         fill_module(alloc, value, &mut module)?;
+        let filters = filters_of(alloc, value)?;
+        module.diagnostic_filters = filters.nodes;
+        module.diagnostic_filter_leaf = filters.leaf;
         Ok(module)
     }
 }
