@@ -16,7 +16,7 @@ use crate::status::{Status, status_of};
 use bitflags::Flags;
 use module_answers::{
     NoOutcome, Shader, Unasked, WriteOutcome, holder_of, info_within, layout_table, refusal_line,
-    untyped_line, write_decimal_within, write_within,
+    rule_name_line, untyped_line, write_decimal_within, write_within,
 };
 use module_positions::{JsonHolder, NESTS_TOO_DEEP, fault_line, nests_too_deep};
 use naga_acceptance::{Unaccepted, unaccepted};
@@ -270,6 +270,11 @@ fn not_written(alloc: Global, shader: &Shader, unwritten: NoOutcome) -> Answer
     match unwritten {
         NoOutcome::NotAccepted(fault) => not_accepted(alloc, shader, fault),
         NoOutcome::TooLong => told(alloc, Status::TooLong, "text too long"),
+        NoOutcome::RuleName(filter) => {
+            let line = rule_name_line(alloc, filter, shader.holder);
+            settled(alloc, Status::Refused, line)
+        }
+        NoOutcome::Memory(_) => out_of_memory(alloc),
     }
 }
 
