@@ -2,10 +2,10 @@
 --
 -- Throughout, met are the filters that were met, old is what was found of them, and f is the next one.
 use Rattle.std.proofs.Common.{◌≡◌, ◌∙◌, ℕ, Bool, true, false, ◌||◌, List, [], ◌∷◌, ◌++◌, ap, append_assoc}
-use Rattle.std.proofs.Common.{refl, string_bytes, subst, sym}
-use Rattle.std.specs.Prelude.{if◌then◌else◌}
+use Rattle.std.proofs.Common.{◌+◌, ◌<◌, arith, drop, length, refl, slice_index_or, string_bytes, subst, sym}
+use Rattle.std.specs.Prelude.{codes, if◌then◌else◌}
 use Rattle.std.specs.List.{flat_map, list_any}
-use Rattle.std.proofs.lemmas.List.{append-nil}
+use Rattle.std.proofs.lemmas.List.{append-nil, drop_more}
 use Rattle.std.proofs.lemmas.List.Elements.{All-cons}
 use Rattle.std.proofs.lemmas.Slice.Eq.{bytes_eq-Decides}
 use Rattle.std.specs.BTreeSet.{contains_text}
@@ -13,7 +13,7 @@ use Rattle.std.specs.Str.{bytes_eq}
 use Rattle.std.specs.declared.string.String.{String}
 use Rattle.naga_ir.specs.declared.diagnostics.DiagnosticFilter.{DiagnosticFilter}
 use Rattle.naga_words.specs.Diagnostics.{rule_name}
-use Rattle.diagnostic_directives.specs.Directives.{HaveNames, directive}
+use Rattle.diagnostic_directives.specs.Directives.{HaveNames, directive, with_empty_line}
 use Rattle.diagnostic_directives.specs.Filters.{has_its_rule, in_force, is_of_rule, unless_overruled}
 use Rattle.diagnostic_directives.specs.Found.{Tells, joined_backwards}
 use Rattle.diagnostic_directives.specs.Names.{has_name}
@@ -26,6 +26,16 @@ joined_backwards-push [] text = sym (append-nil (string_bytes text))
 joined_backwards-push (first ∷ texts) text =
     ap (λ all. all ++ string_bytes first) (joined_backwards-push texts text)
     ∙ append_assoc (string_bytes text) (joined_backwards texts) (string_bytes first)
+
+-- so does the one before those from here on
+pub joined_next : {Y : Type 0} (texts : List (String Y)) (i : ℕ) (d : String Y) → i < length texts →
+    joined_backwards (drop i texts) ≡ joined_backwards (drop (i + 1) texts) ++ string_bytes (slice_index_or texts i d)
+joined_next texts i d within = ap joined_backwards (drop_more texts i d within)
+
+-- an empty line comes after lines, if there are any
+pub ended : (bytes : List ℕ) → 0 < length bytes → with_empty_line bytes ≡ bytes ++ codes "\n"
+ended [] some = absurd (omega arith)
+ended (b ∷ bytes) some = refl
 
 module _ (met : List DiagnosticFilter) (old : Found) (f : DiagnosticFilter) (tells : Tells met old) where
   -- the rule of the filter was met just where its name was

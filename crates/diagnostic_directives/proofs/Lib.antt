@@ -1,4 +1,4 @@
-mod Chains
+pub mod Chains
 mod DirectiveExamples
-mod Keeping
-mod Walking
+pub mod Keeping
+pub mod Walking

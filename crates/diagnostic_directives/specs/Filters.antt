@@ -3,7 +3,7 @@
 -- Throughout, m is a module, nodes are all of its filters with their parents, f and g are filters
 -- (fs are several of a chain, the outermost first), and last is the last filter of a chain, if it has
 -- one.
-use Rattle.std.specs.Prelude.{ℕ, zero, suc, Bool, true, false, List, [], ◌∷◌, ◌++◌, Option}
+use Rattle.std.specs.Prelude.{◌≡◌, ⊤, ℕ, zero, suc, Bool, true, false, List, [], ◌∷◌, ◌++◌, Option}
 use Rattle.std.specs.Prelude.{None, Some, if◌then◌else◌, ◌==◌, length, slice_get}
 use Rattle.std.specs.List.{list_any}
 use Rattle.std.specs.Option.{option_and_then, option_map_or}
@@ -59,6 +59,11 @@ unless_overruled false f fs = f ∷ fs
 abbrev pub in_force : List DiagnosticFilter → List DiagnosticFilter
 in_force [] = []
 in_force (f ∷ fs) = unless_overruled (has_its_rule fs f) f (in_force fs)
+
+-- no later one has the rule of an earlier one
+abbrev pub AreApart : List DiagnosticFilter → Type 0
+AreApart [] = ⊤
+AreApart (f ∷ fs) = (has_its_rule fs f ≡ false) × AreApart fs
 
 abbrev pub filters_in_force : Module → List DiagnosticFilter
 filters_in_force m = in_force (module_chain m)

@@ -3,7 +3,7 @@
 ghost use Rattle.std.specs.Prelude.{◌≡◌, ◌++◌, IfErr, IfOk, OnOk, string_bytes};
 ghost use Rattle.diagnostic_directives.specs.Directives.{HasNoDirectives, HaveNames, Unwritten};
 ghost use Rattle.diagnostic_directives.specs.Directives.{module_directives};
-ghost use Rattle.diagnostic_directives.specs.Filters.{filters_in_force};
+ghost use Rattle.diagnostic_directives.specs.Filters.{AreApart, filters_in_force};
 
 use crate::error::DirectiveError;
 use crate::found::found_directives;
@@ -22,9 +22,11 @@ use std::alloc::Global;
 /// the leaf. Where no filter holds the text is empty. [`DirectiveError::RuleName`] comes where a rule
 /// has no name, and [`DirectiveError::Sink`] for want of memory alone. It is for any module: a chain
 /// of filters ends where a parent does not stand before its filter.
+#[tactic(auto, using(crate::proofs::Chains::apart))]
 pub fn module_directives(alloc: Global, module: &Module) -> Result<String, DirectiveError>
     ensures text { IfOk result (λ text. string_bytes text ≡ module_directives «module».now) }
     ensures named { OnOk result (HaveNames (filters_in_force «module».now)) }
+    ensures apart { OnOk result (AreApart (filters_in_force «module».now)) }
     ensures error { IfErr result (HasNoDirectives «module».now) }
 {
     let found = found_directives(alloc, module)?;
@@ -43,6 +45,7 @@ pub fn write_directives<W: TextSink>(
         (W.text sink.new ≡ W.text sink.old ++ module_directives «module».now) }
     ensures failures { OnOk result (W.failures sink.new ≡ W.failures sink.old) }
     ensures named { OnOk result (HaveNames (filters_in_force «module».now)) }
+    ensures apart { OnOk result (AreApart (filters_in_force «module».now)) }
     ensures error { IfErr result (Unwritten «module».now (W.text sink.old) (W.text sink.new)
         (W.failures sink.old) (W.failures sink.new)) }
 {

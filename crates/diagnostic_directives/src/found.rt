@@ -1,16 +1,19 @@
 //! The filters that hold in a module, from its leaf to the outermost.
 
-ghost use Rattle.std.specs.Prelude.{◌≡◌, ◌++◌, ◌∷◌, [], IfErr, IfOk, List, OnOk, codes};
-ghost use Rattle.std.specs.Prelude.{string_bytes};
+ghost use Rattle.std.specs.Prelude.{◌≡◌, ◌<◌, ◌++◌, ◌∷◌, [], IfErr, IfOk, List, OnOk, codes};
+ghost use Rattle.std.specs.Prelude.{length, string_bytes};
 ghost use Rattle.naga_ir.specs.declared.diagnostics.DiagnosticFilter as ir;
 ghost use Rattle.naga_words.specs.Diagnostics.{severity_word};
 ghost use Rattle.diagnostic_directives.specs.Directives.{HasNoDirectives, with_empty_line};
-ghost use Rattle.diagnostic_directives.specs.Filters.{module_chain};
-ghost use Rattle.diagnostic_directives.specs.Found.{NotAdded, Tells, joined_backwards};
+ghost use Rattle.diagnostic_directives.specs.Filters.{ends_at, module_chain};
+ghost use Rattle.diagnostic_directives.specs.Found.{NoStep, NotAdded, Steps, Tells};
+ghost use Rattle.diagnostic_directives.specs.Found.{joined_backwards};
 
 use crate::error::DirectiveError;
 use crate::names::has_name;
-use naga_ir::{DiagnosticFilter, DiagnosticFilterNode, Handle, ItemIndex, Module, Severity};
+use naga_ir::{
+    Arena, DiagnosticFilter, DiagnosticFilterNode, Handle, ItemIndex, Module, Severity,
+};
 use naga_words::diagnostics::DisplayWgslIdent;
 use std::alloc::{AllocError, Global};
 use std::collections::BTreeSet;
@@ -36,14 +39,22 @@ pub(crate) fn found_directives(alloc: Global, module: &Module) -> Result<Found, 
     let mut found = Found::new(alloc);
     let mut last = module.diagnostic_filter_leaf;
     for index in (0..filters.len()).rev() {
-        let here = ItemIndex::from_index(index);
-        if last == Some(here) {
-            let node = &filters[here];
-            found.add(alloc, here, &node.inner)?;
-            last = node.parent;
-        }
+        last = found.step(alloc, filters, ItemIndex::from_index(index), last)?;
     }
     Ok(found)
+}
+
+/// Whether this filter is the last of a chain.
+fn ends_at(
+    last: Option<Handle<DiagnosticFilterNode>>,
+    here: Handle<DiagnosticFilterNode>,
+) -> bool
+    ensures { result ≡ ends_at last here }
+{
+    match last {
+        Some(last) => last.index() == here.index(),
+        None => false,
+    }
 }
 
 impl Found {
@@ -55,6 +66,28 @@ impl Found {
             lines: Vec::new(alloc),
             rules: BTreeSet::new(alloc),
         }
+    }
+
+    /// Adds the filter here if a chain ends at it, and gives what the rest of the chain ends at.
+    fn step(
+        &mut self,
+        alloc: Global,
+        filters: &Arena<DiagnosticFilterNode>,
+        here: Handle<DiagnosticFilterNode>,
+        last: Option<Handle<DiagnosticFilterNode>>,
+    ) -> Result<Option<Handle<DiagnosticFilterNode>>, DirectiveError>
+        requires { here < length filters.now }
+        ensures ok { (met : List ir.DiagnosticFilter) → Tells met self.old →
+            IfOk result (λ below. Steps filters.now here last below met self.new) }
+        ensures err { (met : List ir.DiagnosticFilter) → Tells met self.old →
+            IfErr result (NoStep filters.now here last met) }
+    {
+        if !ends_at(last, here) {
+            return Ok(last);
+        }
+        let node = &filters[here];
+        self.add(alloc, here, &node.inner)?;
+        Ok(node.parent)
     }
 
     /// Adds the directive of the filter here, unless a filter of the same rule was met.
@@ -83,23 +116,36 @@ impl Found {
     }
 
     /// The directives, the outermost first, with an empty line after them, if there are any.
-    pub(crate) fn text(self, alloc: Global) -> Result<String, AllocError>
+    pub(crate) fn text(&self, alloc: Global) -> Result<String, AllocError>
         ensures { IfOk result (λ text. string_bytes text
-            ≡ with_empty_line (joined_backwards self.lines.items)) }
+            ≡ with_empty_line (joined_backwards self.now.lines.items)) }
     {
-        let Found {
-            mut lines,
-            rules: _,
-        } = self;
-        let mut text = String::new(alloc);
-        while let Some(line) = lines.pop() {
-            text.push_str(line.as_str())?;
-        }
-        if !text.is_empty() {
-            text.push_str("\n")?;
-        }
-        Ok(text)
+        let text = joined_backwards(alloc, &self.lines)?;
+        ended(text)
     }
+}
+
+/// The texts after one another, of which the last comes first.
+#[tactic(auto, using(crate::proofs::Keeping::joined_next))]
+fn joined_backwards(alloc: Global, texts: &[String]) -> Result<String, AllocError>
+    ensures { IfOk result (λ all. string_bytes all ≡ joined_backwards texts.now) }
+{
+    let mut all = String::new(alloc);
+    for index in (0..texts.len()).rev() {
+        all.push_str(texts[index].as_str())?;
+    }
+    Ok(all)
+}
+
+/// The lines, with an empty one after them, if there are any.
+#[tactic(auto, using(crate::proofs::Keeping::ended))]
+fn ended(mut lines: String) -> Result<String, AllocError>
+    ensures { IfOk result (λ text. string_bytes text ≡ with_empty_line (string_bytes lines)) }
+{
+    if !lines.is_empty() {
+        lines.push_str("\n")?;
+    }
+    Ok(lines)
 }
 
 /// The directive for a rule of this name, as a line.
