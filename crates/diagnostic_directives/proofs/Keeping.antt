@@ -3,7 +3,7 @@
 -- Throughout, met are the filters that were met, old is what was found of them, and f is the next one.
 use Rattle.std.proofs.Common.{◌≡◌, ◌∙◌, ℕ, Bool, true, false, ◌||◌, List, [], ◌∷◌, ◌++◌, ap, append_assoc}
 use Rattle.std.proofs.Common.{◌+◌, ◌<◌, arith, drop, length, refl, slice_index_or, string_bytes, subst, sym}
-use Rattle.std.specs.Prelude.{codes, if◌then◌else◌}
+use Rattle.std.specs.Prelude.{codes, cond}
 use Rattle.std.specs.List.{flat_map, list_any}
 use Rattle.std.proofs.lemmas.List.{append-nil, drop_more}
 use Rattle.std.proofs.lemmas.List.Elements.{All-cons}
@@ -66,7 +66,7 @@ module _ (met : List DiagnosticFilter) (old : Found) (f : DiagnosticFilter) (tel
       contains_text old.rules (rule_name f.triggering_rule) ≡ false → has_name f.triggering_rule ≡ true →
       string_bytes line ≡ directive f → new.lines.items ≡ old.lines.items ++ line ∷ [] →
       ((name : List ℕ) → contains_text new.rules name
-      ≡ (if bytes_eq (rule_name f.triggering_rule) name then true else contains_text old.rules name)) →
+      ≡ cond (bytes_eq (rule_name f.triggering_rule) name) true (contains_text old.rules name)) →
       Tells (f ∷ met) new
   added new line unmet named is lines rules =
       let same : in_force (f ∷ met) ≡ f ∷ in_force met =
@@ -82,6 +82,6 @@ module _ (met : List DiagnosticFilter) (old : Found) (f : DiagnosticFilter) (tel
         named = subst HaveNames (sym same) (All-cons _ f (in_force met) named tells.named);
       }
     where
-      or_found : (b old all : Bool) → old ≡ all → (if b then true else old) ≡ (b || all)
+      or_found : (b old all : Bool) → old ≡ all → cond b true old ≡ (b || all)
       or_found true old all same = refl
       or_found false old all same = same

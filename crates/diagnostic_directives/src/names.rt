@@ -4,7 +4,7 @@ ghost use Rattle.std.specs.Prelude.{◌≡◌};
 ghost use Rattle.std.specs.List.{list_all};
 ghost use Rattle.naga_keywords.specs.Plain.{is_empty_or_separated, is_identifier};
 ghost use Rattle.naga_keywords.specs.Plain.{is_identifier_char};
-ghost use Rattle.diagnostic_directives.specs.Names.{has_name, is_name};
+ghost use Rattle.diagnostic_directives.specs.Names.{has_name, is_name, is_reserved};
 
 use naga_ir::FilterableTriggeringRule;
 use naga_keywords::by_bytes::reserved_words;
@@ -28,7 +28,13 @@ pub(crate) fn has_name(alloc: Global, rule: &FilterableTriggeringRule) -> bool
 fn is_name(alloc: Global, word: &str) -> bool
     ensures { result ≡ is_name word.now }
 {
-    is_identifier(word.as_bytes()) && !reserved_words(alloc).contains(word)
+    is_identifier(word.as_bytes()) && !is_reserved(alloc, word)
+}
+
+fn is_reserved(alloc: Global, word: &str) -> bool
+    ensures { result ≡ is_reserved word.now }
+{
+    reserved_words(alloc).contains(word)
 }
 
 /// Whether these are ASCII letters, digits and `_` alone, no digit first and not `__`, and not a `_`
