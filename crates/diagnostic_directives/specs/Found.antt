@@ -49,6 +49,12 @@ NoStep nodes here last met (RuleName h) =
 NoStep nodes here last met (Sink sink.Failed) = ⊥
 NoStep nodes here last met (Sink (sink.Memory error)) = ⊤
 
+-- memory was wanting
+abbrev pub IsWant : DirectiveError → Type 0
+IsWant (RuleName h) = ⊥
+IsWant (Sink sink.Failed) = ⊥
+IsWant (Sink (sink.Memory error)) = ⊤
+
 -- why the filter was not added: no filter of its rule was met, and the rule has no name; or memory was
 -- wanting
 abbrev pub NotAdded : Found → (here : ℕ) → DiagnosticFilter → DirectiveError → Type 0

@@ -1,18 +1,21 @@
 //! The filters that hold in a module, from its leaf to the outermost.
 
 ghost use Rattle.std.specs.Prelude.{◌≡◌, ◌<◌, ◌++◌, ◌∷◌, [], IfErr, IfOk, List, OnOk, codes};
-ghost use Rattle.std.specs.Prelude.{length, string_bytes};
+ghost use Rattle.std.specs.Prelude.{cond, length, string_bytes, true};
+ghost use Rattle.std.specs.BTreeSet.{contains_text};
+ghost use Rattle.std.specs.Str.{bytes_eq};
 ghost use Rattle.naga_ir.specs.declared.diagnostics.DiagnosticFilter as ir;
-ghost use Rattle.naga_words.specs.Diagnostics.{severity_word};
+ghost use Rattle.naga_words.specs.Diagnostics.{rule_name, severity_word};
 ghost use Rattle.diagnostic_directives.specs.Directives.{HasNoDirectives, with_empty_line};
 ghost use Rattle.diagnostic_directives.specs.Filters.{ends_at, module_chain};
-ghost use Rattle.diagnostic_directives.specs.Found.{NoStep, NotAdded, Steps, Tells};
+ghost use Rattle.diagnostic_directives.specs.Found.{IsWant, NoStep, NotAdded, Steps, Tells};
 ghost use Rattle.diagnostic_directives.specs.Found.{joined_backwards};
 
 use crate::error::DirectiveError;
 use crate::names::has_name;
 use naga_ir::{
-    Arena, DiagnosticFilter, DiagnosticFilterNode, Handle, ItemIndex, Module, Severity,
+    Arena, DiagnosticFilter, DiagnosticFilterNode, FilterableTriggeringRule, Handle, ItemIndex,
+    Module, Severity,
 };
 use naga_words::diagnostics::DisplayWgslIdent;
 use std::alloc::{AllocError, Global};
@@ -101,15 +104,33 @@ impl Found {
             OnOk result (Tells (filter.now ∷ met) self.new) }
         ensures err { IfErr result (NotAdded self.old here filter.now) }
     {
-        let rule = &filter.triggering_rule;
-        let name = rule.display_wgsl_ident().to_string(alloc)?;
-        if self.rules.contains(name.as_str()) {
+        let name = name_of(alloc, &filter.triggering_rule)?;
+        if self.was_met(name.as_str()) {
             return Ok(());
         }
-        if !has_name(alloc, rule) {
+        if !has_name(alloc, &filter.triggering_rule) {
             return Err(DirectiveError::RuleName(here));
         }
         let line = directive_line(alloc, filter.new_severity, name.as_str())?;
+        self.keep(name, line)?;
+        Ok(())
+    }
+
+    /// Whether a filter was met whose rule has this name.
+    fn was_met(&self, name: &str) -> bool
+        ensures { result ≡ contains_text self.now.rules name.now }
+    {
+        self.rules.contains(name)
+    }
+
+    /// Keeps the directive of a rule, and its name.
+    #[tactic(auto, using(std::proofs::lemmas::Map::Text::btree_set_updates_text))]
+    fn keep(&mut self, name: String, line: String) -> Result<(), DirectiveError>
+        ensures lines { OnOk result (self.new.lines.items ≡ self.old.lines.items ++ line ∷ []) }
+        ensures rules { OnOk result ((of : List ℕ) → contains_text self.new.rules of
+            ≡ cond (bytes_eq (string_bytes name) of) true (contains_text self.old.rules of)) }
+        ensures err { IfErr result IsWant }
+    {
         self.lines.push(line)?;
         self.rules.insert(name)?;
         Ok(())
@@ -146,6 +167,13 @@ fn ended(mut lines: String) -> Result<String, AllocError>
         lines.push_str("\n")?;
     }
     Ok(lines)
+}
+
+/// The name of a rule.
+fn name_of(alloc: Global, rule: &FilterableTriggeringRule) -> Result<String, AllocError>
+    ensures { IfOk result (λ name. string_bytes name ≡ rule_name rule.now) }
+{
+    rule.display_wgsl_ident().to_string(alloc)
 }
 
 /// The directive for a rule of this name, as a line.
