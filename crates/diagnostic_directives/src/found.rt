@@ -49,10 +49,10 @@ pub(crate) fn found_directives(alloc: Global, module: &Module) -> Result<Found, 
 
 /// Whether this filter is the last of a chain.
 fn ends_at(
-    last: Option<Handle<DiagnosticFilterNode>>,
+    last: &Option<Handle<DiagnosticFilterNode>>,
     here: Handle<DiagnosticFilterNode>,
 ) -> bool
-    ensures { result ≡ ends_at last here }
+    ensures { result ≡ ends_at last.now here }
 {
     match last {
         Some(last) => last.index() == here.index(),
@@ -85,7 +85,7 @@ impl Found {
         ensures err { (met : List ir.DiagnosticFilter) → Tells met self.old →
             IfErr result (NoStep filters.now here last met) }
     {
-        if !ends_at(last, here) {
+        if !ends_at(&last, here) {
             return Ok(last);
         }
         let node = &filters[here];

@@ -193,9 +193,9 @@ pub(crate) fn filters_of(alloc: Global, value: &Value) -> Result<Filters, ReadEr
 {
     let mut nodes = Arena::new(alloc);
     fill(alloc, value, "diagnostic_filters", &mut nodes)?;
-    let leaf = optional_member(alloc, value, LEAF)?;
-    expect_filters(alloc, &nodes, leaf)?;
-    expect_no_own_filters(alloc, value, leaf)?;
+    let leaf: Option<Handle<DiagnosticFilterNode>> = optional_member(alloc, value, LEAF)?;
+    expect_filters(alloc, &nodes, &leaf)?;
+    expect_no_own_filters(alloc, value, &leaf)?;
     Ok(Filters { nodes, leaf })
 }
 
@@ -204,10 +204,10 @@ pub(crate) fn filters_of(alloc: Global, value: &Value) -> Result<Filters, ReadEr
 fn expect_filters(
     alloc: Global,
     filters: &Arena<DiagnosticFilterNode>,
-    leaf: Option<Handle<DiagnosticFilterNode>>,
+    leaf: &Option<Handle<DiagnosticFilterNode>>,
 ) -> Result<(), ReadError>
     ensures { Gives unseen
-        (can_hold (map (λ node. node.parent) (map seen_node filters.now)) leaf) result }
+        (can_hold (map (λ node. node.parent) (map seen_node filters.now)) leaf.now) result }
 {
     in_member(
         alloc,
@@ -229,7 +229,7 @@ fn expect_parents(alloc: Global, filters: &Arena<DiagnosticFilterNode>) -> Resul
         (Some tt) None) result }
 {
     for (handle, node) in filters.iter() {
-        if !follows(handle, node.parent) {
+        if !follows(handle, &node.parent) {
             let problem = ReadError::at(alloc, Problem::NoEarlierFilter);
             let read = in_member(alloc, "parent", Err(problem));
             return in_item(alloc, handle.index(), read);
@@ -241,9 +241,9 @@ fn expect_parents(alloc: Global, filters: &Arena<DiagnosticFilterNode>) -> Resul
 /// Whether the parent of the filter here stands before it, if it has one.
 fn follows(
     here: Handle<DiagnosticFilterNode>,
-    parent: Option<Handle<DiagnosticFilterNode>>,
+    parent: &Option<Handle<DiagnosticFilterNode>>,
 ) -> bool
-    ensures { result ≡ follows here parent }
+    ensures { result ≡ follows here parent.now }
 {
     match parent {
         Some(parent) => parent.index() < here.index(),
@@ -256,9 +256,9 @@ fn follows(
 fn expect_no_own_filters(
     alloc: Global,
     value: &Value,
-    leaf: Option<Handle<DiagnosticFilterNode>>,
+    leaf: &Option<Handle<DiagnosticFilterNode>>,
 ) -> Result<(), ReadError>
-    ensures { Gives unseen (no_own_filters leaf (value_view value.now)) result }
+    ensures { Gives unseen (no_own_filters leaf.now (value_view value.now)) result }
 {
     if let Some(functions) = list_at(value, "functions") {
         in_member(alloc, "functions", expect_leaves(alloc, functions, leaf))?;
@@ -285,9 +285,9 @@ fn list_at<'v, 'a>(value: &'v Value<'a>, name: &str) -> Option<&'v Vec<Value<'a>
 fn expect_leaves(
     alloc: Global,
     functions: &Vec<Value>,
-    leaf: Option<Handle<DiagnosticFilterNode>>,
+    leaf: &Option<Handle<DiagnosticFilterNode>>,
 ) -> Result<(), ReadError>
-    ensures { Gives unseen (each_item (without_own leaf) (items_view functions.now.items)) result }
+    ensures { Gives unseen (each_item (without_own leaf.now) (items_view functions.now.items)) result }
 {
     for (index, function) in functions.iter().enumerate() {
         in_item(alloc, index, expect_leaf(alloc, function, leaf))?;
@@ -299,10 +299,10 @@ fn expect_leaves(
 fn expect_entry_leaves(
     alloc: Global,
     entry_points: &Vec<Value>,
-    leaf: Option<Handle<DiagnosticFilterNode>>,
+    leaf: &Option<Handle<DiagnosticFilterNode>>,
 ) -> Result<(), ReadError>
     ensures { Gives unseen
-        (each_item (entry_without_own leaf) (items_view entry_points.now.items)) result }
+        (each_item (entry_without_own leaf.now) (items_view entry_points.now.items)) result }
 {
     for (index, entry_point) in entry_points.iter().enumerate() {
         in_item(alloc, index, expect_entry_leaf(alloc, entry_point, leaf))?;
@@ -314,9 +314,9 @@ fn expect_entry_leaves(
 fn expect_entry_leaf(
     alloc: Global,
     entry_point: &Value,
-    leaf: Option<Handle<DiagnosticFilterNode>>,
+    leaf: &Option<Handle<DiagnosticFilterNode>>,
 ) -> Result<(), ReadError>
-    ensures { Gives unseen (entry_without_own leaf (value_view entry_point.now)) result }
+    ensures { Gives unseen (entry_without_own leaf.now (value_view entry_point.now)) result }
 {
     match entry_point.get("function") {
         Some(function) => in_member(alloc, "function", expect_leaf(alloc, function, leaf)),
@@ -328,12 +328,12 @@ fn expect_entry_leaf(
 fn expect_leaf(
     alloc: Global,
     function: &Value,
-    leaf: Option<Handle<DiagnosticFilterNode>>,
+    leaf: &Option<Handle<DiagnosticFilterNode>>,
 ) -> Result<(), ReadError>
-    ensures { Gives unseen (without_own leaf (value_view function.now)) result }
+    ensures { Gives unseen (without_own leaf.now (value_view function.now)) result }
 {
-    let own = optional_member(alloc, function, LEAF)?;
-    if is_leaf_of(leaf, own) {
+    let own: Option<Handle<DiagnosticFilterNode>> = optional_member(alloc, function, LEAF)?;
+    if is_leaf_of(leaf, &own) {
         Ok(())
     } else {
         in_member(alloc, LEAF, Err(ReadError::at(alloc, Problem::OwnFilters)))
@@ -342,10 +342,10 @@ fn expect_leaf(
 
 /// Whether a function has no leaf, or that of the module.
 fn is_leaf_of(
-    leaf: Option<Handle<DiagnosticFilterNode>>,
-    own: Option<Handle<DiagnosticFilterNode>>,
+    leaf: &Option<Handle<DiagnosticFilterNode>>,
+    own: &Option<Handle<DiagnosticFilterNode>>,
 ) -> bool
-    ensures { result ≡ is_leaf_of leaf own }
+    ensures { result ≡ is_leaf_of leaf.now own.now }
 {
     match (own, leaf) {
         (None, _) => true,
