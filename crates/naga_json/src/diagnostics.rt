@@ -287,7 +287,8 @@ fn expect_leaves(
     functions: &Vec<Value>,
     leaf: &Option<Handle<DiagnosticFilterNode>>,
 ) -> Result<(), ReadError>
-    ensures { Gives unseen (each_item (without_own leaf.now) (items_view functions.now.items)) result }
+    ensures { Gives unseen
+        (each_item (without_own leaf.now) (items_view functions.now.items)) result }
 {
     for (index, function) in functions.iter().enumerate() {
         in_item(alloc, index, expect_leaf(alloc, function, leaf))?;
