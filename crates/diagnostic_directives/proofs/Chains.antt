@@ -26,12 +26,12 @@ module _ (nodes : List DiagnosticFilterNode) (i : ℕ) (last : Option ℕ) (met 
           (chain_below nodes i (if b then option_and_then (λ node. node.parent) at else last)
           ++ (if b then option_map_or (λ node. node.inner ∷ []) at [] else [])) ++ met
           ≡ chain_below nodes i node.parent ++ (node.inner ∷ met)
-      whole true yes (Some x) same = subst
+      whole true ends (Some x) same = subst
           (λ y. (chain_below nodes i x.parent ++ (x.inner ∷ [])) ++ met
           ≡ chain_below nodes i y.parent ++ (y.inner ∷ met)) (same_Some x node same)
           (append_assoc (chain_below nodes i x.parent) (x.inner ∷ []) met)
-      whole true yes None same = absurd (cc)
-      whole false no at same = absurd (cc)
+      whole true ends None same = absurd (cc)
+      whole false ends at same = absurd (cc)
 
   -- it does not: all of it stands further down
   pub passed : ends_at last i ≡ false → chain_below nodes (suc i) last ++ met ≡ chain_below nodes i last ++ met
@@ -40,8 +40,8 @@ module _ (nodes : List DiagnosticFilterNode) (i : ℕ) (last : Option ℕ) (met 
       whole : (b : Bool) → b ≡ false →
           (chain_below nodes i (if b then parent_of nodes i else last)
           ++ (if b then filter_of nodes i else [])) ++ met ≡ chain_below nodes i last ++ met
-      whole true no = absurd (cc)
-      whole false yes = append_assoc (chain_below nodes i last) [] met
+      whole true ends = absurd (cc)
+      whole false ends = append_assoc (chain_below nodes i last) [] met
 
 in_longer : (b : Bool) (f : DiagnosticFilter) (fs : List DiagnosticFilter) (g : DiagnosticFilter) → Contains fs g →
     Contains (unless_overruled b f fs) g

@@ -1,8 +1,6 @@
 -- Filters of diagnostics, and the directives that stand for them.
-use Rattle.std.proofs.Common.{◌≡◌, ℕ, true, false, List, [], ◌∷◌, Option, None, Some, map, refl, string_bytes}
-use Rattle.std.specs.Global.{Global}
+use Rattle.std.proofs.Common.{◌≡◌, ℕ, true, false, List, [], ◌∷◌, Option, None, Some, map, refl}
 use Rattle.std.specs.Prelude.{codes}
-use Rattle.std.specs.declared.string.String.{String}
 use Rattle.naga_ir.specs.declared.diagnostics.DiagnosticFilterNode.{DiagnosticFilterNode}
 use Rattle.naga_ir.specs.declared.diagnostics.FilterableTriggeringRule.{FilterableTriggeringRule}
 use Rattle.naga_ir.specs.declared.diagnostics.FilterableTriggeringRule.TheVariants as rule
@@ -10,9 +8,8 @@ use Rattle.naga_ir.specs.declared.diagnostics.Severity.{Severity}
 use Rattle.naga_ir.specs.declared.diagnostics.Severity.TheVariants.{Off, Info, Warning, Error}
 use Rattle.naga_ir.specs.declared.diagnostics.StandardFilterableTriggeringRule.TheVariants as standard
 use Rattle.naga_ir.specs.declared.module.Module.{Module}
-use Rattle.naga_words.specs.Diagnostics.{rule_name, severity_word}
 use Rattle.diagnostic_directives.specs.Directives.{module_directives}
-use Rattle.diagnostic_directives.specs.Filters.{filters_in_force, module_chain}
+use Rattle.diagnostic_directives.specs.Filters.{module_chain}
 use Rattle.diagnostic_directives.specs.Names.{is_name}
 
 -- a filter of this rule with this parent

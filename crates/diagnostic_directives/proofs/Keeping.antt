@@ -3,7 +3,7 @@
 -- Throughout, met are the filters that were met, old is what was found of them, and f is the next one.
 use Rattle.std.proofs.Common.{◌≡◌, ◌∙◌, ℕ, Bool, true, false, ◌||◌, List, [], ◌∷◌, ◌++◌, ap, append_assoc}
 use Rattle.std.proofs.Common.{◌+◌, ◌<◌, arith, drop, length, refl, slice_index_or, string_bytes, subst, sym}
-use Rattle.std.specs.Prelude.{codes, cond}
+use Rattle.std.specs.Prelude.{IsTrue, codes, cond}
 use Rattle.std.specs.List.{flat_map, list_any}
 use Rattle.std.proofs.lemmas.List.{append-nil, drop_more}
 use Rattle.std.proofs.lemmas.List.Elements.{All-cons}
@@ -79,7 +79,7 @@ module _ (met : List DiagnosticFilter) (old : Found) (f : DiagnosticFilter) (tel
             ∙ ap (flat_map directive) (sym same);
         rules = λ name. rules name
             ∙ or_found (bytes_eq (rule_name f.triggering_rule) name) _ _ (tells.rules name);
-        named = subst HaveNames (sym same) (All-cons _ f (in_force met) named tells.named);
+        named = subst HaveNames (sym same) (All-cons (λ x. IsTrue (has_name x.triggering_rule)) f (in_force met) named tells.named);
       }
     where
       or_found : (b old all : Bool) → old ≡ all → cond b true old ≡ (b || all)

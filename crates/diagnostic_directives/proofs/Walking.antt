@@ -2,7 +2,7 @@
 --
 -- Throughout, nodes are the filters of a module, last is the last of a chain among the first here + 1 of
 -- them, and met are filters that stand after that chain.
-use Rattle.std.proofs.Common.{◌≡◌, ◌∙◌, ℕ, suc, true, false, List, ◌∷◌, ◌++◌, Option, Some, subst, sym}
+use Rattle.std.proofs.Common.{◌≡◌, ◌∙◌, ◌<◌, ◌≤◌, ◌-◌, arith, ℕ, zero, suc, true, false, List, ◌∷◌, ◌++◌, Option, Some, subst, sym}
 use Rattle.std.specs.Prelude.{Contains, slice_get}
 use Rattle.naga_ir.specs.declared.diagnostics.DiagnosticFilterNode.{DiagnosticFilterNode}
 use Rattle.naga_ir.specs.declared.diagnostics.DiagnosticFilter.{DiagnosticFilter}
@@ -44,8 +44,8 @@ module _ (nodes : List DiagnosticFilterNode) (here : ℕ) (last : Option ℕ) (m
     node,
     subst (λ k. slice_get nodes k ≡ Some node) (sym lacks.0) is,
     subst (λ chain. Contains (in_force chain) node.inner) (sym (met_here nodes here last met node ends is))
-    (kept_in_force (chain_below nodes here node.parent) (node.inner ∷ met) node.inner
-    (is_in_force node.inner met (sym (tells.rules (rule_name node.inner.triggering_rule)) ∙ lacks.1))),
+        (kept_in_force (chain_below nodes here node.parent) (node.inner ∷ met) node.inner
+        (is_in_force node.inner met (sym (tells.rules (rule_name node.inner.triggering_rule)) ∙ lacks.1))),
     lacks.2,
   )
   no_step old (Sink sink.Failed) tells lacks = lacks
@@ -60,7 +60,19 @@ stepped m here last below old new is step =
 -- no more of them
 pub not_stepped : (m : Module) (here : ℕ) (last : Option ℕ) (old : Found) (error : DirectiveError)
     (is : IsMet m (suc here) last old) → NoStep m.diagnostic_filters here last is.met error → HasNoDirectives m error
-not_stepped m here last old (RuleName h) is no =
-    (no.0, no.1, subst (λ chain. Contains (in_force chain) no.0.inner) is.whole no.2, no.3)
-not_stepped m here last old (Sink sink.Failed) is no = no
-not_stepped m here last old (Sink (sink.Memory e)) is no = no
+not_stepped m here last old (RuleName h) is lacks =
+    (lacks.0, lacks.1, subst (λ chain. Contains (in_force chain) lacks.0.inner) is.whole lacks.2, lacks.3)
+not_stepped m here last old (Sink sink.Failed) is lacks = lacks
+not_stepped m here last old (Sink (sink.Memory e)) is lacks = lacks
+
+-- the index before one that is not the first
+pub met_below : (m : Module) (index : ℕ) (last : Option ℕ) (found : Found) → 0 < index → IsMet m index last found →
+    IsMet m (suc (index - 1)) last found
+met_below m index last found more is =
+    let next : index ≡ suc (index - 1) = omega arith in subst (λ i. IsMet m i last found) next is
+
+-- all of the chain was met
+pub all_met : (m : Module) (index : ℕ) (last : Option ℕ) (found : Found) → index ≤ 0 → IsMet m index last found →
+    Tells (module_chain m) found
+all_met m zero last found none is = subst (λ fs. Tells fs found) is.whole is.tells
+all_met m (suc index) last found none is = absurd (omega arith)

@@ -1,7 +1,7 @@
 -- The directives of a module, which stand in front of its text.
 --
 -- Throughout, m is a module, and f a filter (fs are several).
-use Rattle.std.specs.Prelude.{◌≡◌, ⊤, ℕ, ◌<◌, Bool, false, All, IsTrue, List, [], ◌∷◌, ◌++◌, Some}
+use Rattle.std.specs.Prelude.{◌≡◌, ⊤, ℕ, ◌<◌, false, All, IsTrue, List, [], ◌∷◌, ◌++◌, Some}
 use Rattle.std.specs.Prelude.{Contains, codes, slice_get}
 use Rattle.std.specs.List.{flat_map}
 use Rattle.naga_ir.specs.declared.diagnostics.DiagnosticFilter.{DiagnosticFilter}

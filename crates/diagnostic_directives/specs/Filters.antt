@@ -4,7 +4,7 @@
 -- (fs are several of a chain, the outermost first), and last is the last filter of a chain, if it has
 -- one.
 use Rattle.std.specs.Prelude.{◌≡◌, ⊤, ℕ, zero, suc, Bool, true, false, List, [], ◌∷◌, ◌++◌, Option}
-use Rattle.std.specs.Prelude.{None, Some, if◌then◌else◌, ◌==◌, length, slice_get}
+use Rattle.std.specs.Prelude.{if◌then◌else◌, ◌==◌, length, slice_get}
 use Rattle.std.specs.List.{list_any}
 use Rattle.std.specs.Option.{option_and_then, option_map_or}
 use Rattle.std.specs.Str.{bytes_eq}

@@ -7,7 +7,7 @@ use Rattle.std.specs.Str.{bytes_eq}
 use Rattle.naga_ir.specs.declared.diagnostics.FilterableTriggeringRule.{FilterableTriggeringRule}
 use Rattle.naga_ir.specs.declared.diagnostics.FilterableTriggeringRule.TheVariants as rule
 use Rattle.naga_keywords.specs.Plain.{is_identifier}
-use Rattle.naga_keywords.specs.declared.TheConstants.{RESERVED}
+use Rattle.naga_keywords.specs.declared.keywords.TheConstants.{RESERVED}
 
 -- a keyword of WGSL, or a word that is kept for later ones
 abbrev pub is_reserved : List ℕ → Bool

@@ -1,7 +1,7 @@
 //! The filters that hold in a module, from its leaf to the outermost.
 
 ghost use Rattle.std.specs.Prelude.{◌≡◌, ◌<◌, ◌++◌, ◌∷◌, [], IfErr, IfOk, List, OnOk, codes};
-ghost use Rattle.std.specs.Prelude.{cond, length, string_bytes, true};
+ghost use Rattle.std.specs.Prelude.{cond, length, string_bytes, true, ℕ};
 ghost use Rattle.std.specs.BTreeSet.{contains_text};
 ghost use Rattle.std.specs.Str.{bytes_eq};
 ghost use Rattle.naga_ir.specs.declared.diagnostics.DiagnosticFilter as ir;
@@ -48,10 +48,7 @@ pub(crate) fn found_directives(alloc: Global, module: &Module) -> Result<Found, 
 }
 
 /// Whether this filter is the last of a chain.
-fn ends_at(
-    last: &Option<Handle<DiagnosticFilterNode>>,
-    here: Handle<DiagnosticFilterNode>,
-) -> bool
+fn ends_at(last: &Option<Handle<DiagnosticFilterNode>>, here: Handle<DiagnosticFilterNode>) -> bool
     ensures { result ≡ ends_at last.now here }
 {
     match last {
