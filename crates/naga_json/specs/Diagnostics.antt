@@ -13,6 +13,7 @@ use Rattle.json.specs.Find.{get, as_array, as_str}
 use Rattle.naga_json.specs.Said.{◌⇒◌, ◌>>=◌, Table, members, field, field_or, option_field}
 use Rattle.naga_json.specs.Said.{list_said, tuple_said, variant_said, word_said}
 use Rattle.naga_json.specs.Numbers.{index_said}
+use Rattle.naga_json.specs.Text.{json_of}
 use Rattle.naga_json.specs.Seen.{SeenFilter, SeenFilters, SeenNode, SeenRule, standard_rule}
 use Rattle.naga_json.specs.Seen.{unknown_rule, user_rule}
 use Rattle.naga_json.specs.declared.diagnostics.RuleName.{RuleName}
@@ -98,9 +99,13 @@ abbrev pub each_item : (Json → Option ⊤) → Items → Option ⊤
 each_item said no_items = Some tt
 each_item said (item j js) = said j >>= λ _. each_item said js
 
--- each item of this member, where that is a list
+-- the items of this member, where that is a list
+abbrev pub list_at : (name : List ℕ) → Json → Option Items
+list_at name j = get name j >>= as_array
+
+-- each of them
 abbrev pub each_of : String → (Json → Option ⊤) → Json → Option ⊤
-each_of name said j = option_map_or (each_item said) (get (codes name) j >>= as_array) (Some tt)
+each_of name said j = option_map_or (each_item said) (list_at (codes name) j) (Some tt)
 
 abbrev pub no_own_filters : (leaf : Option ℕ) → Json → Option ⊤
 no_own_filters leaf j = do
@@ -116,6 +121,10 @@ filters_said j = do
   _ ← no_own_filters leaf j
   Some (record { nodes = nodes; leaf = leaf })
 
+-- what a text says of them by its JSON, which is a module
+abbrev pub text_filters_said : (text : List ℕ) → Option SeenFilters
+text_filters_said text = json_of text >>= filters_said
+
 -- of an object with a module and what is known of it
 abbrev pub known_filters_said : Json → Option SeenFilters
 known_filters_said j = field "module" filters_said j
@@ -124,3 +133,10 @@ known_filters_said j = field "module" filters_said j
 abbrev pub given_filters_said : (is_bare : Bool) → Json → Option SeenFilters
 given_filters_said true j = filters_said j
 given_filters_said false j = known_filters_said j
+
+-- the same of texts
+abbrev pub text_known_filters_said : (text : List ℕ) → Option SeenFilters
+text_known_filters_said text = json_of text >>= known_filters_said
+
+abbrev pub text_given_filters_said : (is_bare : Bool) → (text : List ℕ) → Option SeenFilters
+text_given_filters_said is_bare text = json_of text >>= given_filters_said is_bare

@@ -1,14 +1,14 @@
 //! Filters of diagnostics, which hold in a whole module.
 
-ghost use Rattle.std.specs.Prelude.{◌≡◌, List, None, Option, Some, cond, map, option_map, string_bytes, tt, ℕ};
-ghost use Rattle.json.specs.Find.{as_array, as_str, get};
+ghost use Rattle.std.specs.Prelude.{◌≡◌, List, None, Option, Some, cond, map, option_map, string_bytes, ℕ};
+ghost use Rattle.json.specs.Find.{as_str};
 ghost use Rattle.json.specs.Value.{items_view, value_view};
 ghost use Rattle.naga_json.specs.Diagnostics.{can_hold, each_item, entry_without_own, filter_said};
-ghost use Rattle.naga_json.specs.Diagnostics.{filters_said, follow_parents, follows, is_leaf_of};
+ghost use Rattle.naga_json.specs.Diagnostics.{filters_said, follow_parents, follows, is_leaf_of, list_at};
 ghost use Rattle.naga_json.specs.Diagnostics.{no_own_filters, node_said, rule_names, rule_payload};
 ghost use Rattle.naga_json.specs.Diagnostics.{rule_said, severity_said, standard_rule_said};
 ghost use Rattle.naga_json.specs.Diagnostics.{without_own};
-ghost use Rattle.naga_json.specs.Said.{◌>>=◌, Gives, same, tuple_said, unseen};
+ghost use Rattle.naga_json.specs.Said.{Gives, same, tuple_said, unseen};
 ghost use Rattle.naga_json.specs.Seen.{SeenFilter, SeenNode, SeenRule, seen_filter, seen_filters};
 ghost use Rattle.naga_json.specs.Seen.{seen_node, seen_rule};
 
@@ -273,7 +273,7 @@ fn expect_no_own_filters(
 /// The items of the member of this name, where it is a list.
 fn list_at<'v, 'a>(value: &'v Value<'a>, name: &str) -> Option<&'v Vec<Value<'a>>>
     ensures { option_map (λ v. items_view v.now.items) result
-        ≡ (get name.now (value_view value.now) >>= as_array) }
+        ≡ list_at name.now (value_view value.now) }
 {
     match value.get(name) {
         Some(Value::Array(items)) => Some(items),

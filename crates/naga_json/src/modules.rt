@@ -3,10 +3,11 @@
 ghost use Rattle.std.specs.Prelude.{◌≡◌, IfOk, IsTrue, None, Some};
 ghost use Rattle.json.specs.Value.{value_view};
 ghost use Rattle.naga_json.specs.Diagnostics.{filters_said, given_filters_said, known_filters_said};
+ghost use Rattle.naga_json.specs.Diagnostics.{text_filters_said, text_given_filters_said};
+ghost use Rattle.naga_json.specs.Diagnostics.{text_known_filters_said};
 ghost use Rattle.naga_json.specs.Infos.{module_info_said, text_info_said};
-ghost use Rattle.naga_json.specs.Said.{◌>>=◌, Gives};
+ghost use Rattle.naga_json.specs.Said.{Gives};
 ghost use Rattle.naga_json.specs.Seen.{filters_of, seen_module_info};
-ghost use Rattle.naga_json.specs.Text.{json_of};
 
 use crate::error::{JsonKind, ReadError};
 use crate::shape::{
@@ -24,7 +25,7 @@ use std::alloc::Global;
 /// [`ReadError::Misfit`] where the JSON is no module, or says what the module here would lose.
 pub fn read_module(alloc: Global, text: &str) -> Result<Module, ReadError>
     ensures filters { IfOk result
-        (λ m. (json_of text.now >>= filters_said) ≡ Some (filters_of m)) }
+        (λ m. text_filters_said text.now ≡ Some (filters_of m)) }
 {
     let mut scratch = Scratch::new(alloc);
     let value = parse(alloc, text, &mut scratch)?;
@@ -53,7 +54,7 @@ pub struct Known {
 /// Reads an object with a module and what is known of it, as its members `module` and `info`. It
 /// fails as [`read_module`] does. Members beside these two are let be.
 pub fn read_known(alloc: Global, text: &str) -> Result<Known, ReadError>
-    ensures filters { IfOk result (λ known. (json_of text.now >>= known_filters_said)
+    ensures filters { IfOk result (λ known. text_known_filters_said text.now
         ≡ Some (filters_of known.«module»)) }
 {
     let mut scratch = Scratch::new(alloc);
@@ -77,7 +78,7 @@ pub struct Given {
 /// as for [`read_module`]. It fails as that does.
 pub fn read_given(alloc: Global, text: &str) -> Result<Given, ReadError>
     ensures bare { IfOk result (λ given. IsTrue given.is_bare → given.info ≡ None) }
-    ensures filters { IfOk result (λ given. (json_of text.now >>= given_filters_said given.is_bare)
+    ensures filters { IfOk result (λ given. text_given_filters_said given.is_bare text.now
         ≡ Some (filters_of given.«module»)) }
 {
     let mut scratch = Scratch::new(alloc);
