@@ -10,7 +10,7 @@ use Rattle.naga_ir.specs.declared.diagnostics.StandardFilterableTriggeringRule.T
 use Rattle.naga_ir.specs.declared.module.Module.{Module}
 use Rattle.diagnostic_directives.specs.Directives.{module_directives}
 use Rattle.diagnostic_directives.specs.Filters.{module_chain}
-use Rattle.diagnostic_directives.specs.Names.{is_name}
+use Rattle.diagnostic_directives.specs.Names.{is_name, is_reserved}
 
 -- a filter of this rule with this parent
 abbrev node_of : FilterableTriggeringRule → Severity → (parent : Option ℕ) → DiagnosticFilterNode
@@ -72,4 +72,5 @@ names : map is_name
     (codes "derivative_uniformity" ∷ codes "_x1" ∷ codes "" ∷ codes "_" ∷ codes "__x" ∷ codes "1x"
     ∷ codes "a.b" ∷ codes "x); fn f() {}" ∷ codes "if" ∷ codes "override" ∷ codes "f32" ∷ [])
     ≡ true ∷ true ∷ false ∷ false ∷ false ∷ false ∷ false ∷ false ∷ false ∷ false ∷ true ∷ []
+unfolding is_reserved
 names = refl

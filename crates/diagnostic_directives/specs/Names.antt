@@ -10,7 +10,7 @@ use Rattle.naga_keywords.specs.Plain.{is_identifier}
 use Rattle.naga_keywords.specs.declared.keywords.TheConstants.{RESERVED}
 
 -- a keyword of WGSL, or a word that is kept for later ones
-abbrev pub is_reserved : List ℕ → Bool
+unfoldable pub is_reserved : List ℕ → Bool
 is_reserved w = list_any (λ word. bytes_eq w word.now) RESERVED.now
 
 -- An identifier. WGSL also has ones of other letters than those of ASCII, of which no name here is.
