@@ -1,8 +1,8 @@
 #!/usr/bin/env python3
 """Tries the edits of bench/edits/tested: wrong bodies that the tests of `wgsl_tests`, and those of `naga_json` in
 `module_tests` and the cases of `listing_cases`, are to refuse. Those that find no memory where there is some are refused by
-nothing else, since no contract says when memory is there, nor are those of `naga_json`, which has no contracts of what is
-read. Each is made on a copy of the crates, whose tests and cases are run without any proof; one of them must fail.
+nothing else, since no contract says when memory is there, nor are those of `naga_json`, which has no contract of a module as
+a whole. Each is made on a copy of the crates, whose tests and cases are run without any proof; one of them must fail.
 
 Run it at the top of the repository, with the names of edits for these alone. Each takes some minutes.
 """

@@ -39,7 +39,8 @@ enum yorwethul_status {
 
 /* flags */
 #define YORWETHUL_EXPLICIT_TYPES 1u /* each `let` states its type */
-#define YORWETHUL_PORTABLE 2u       /* the text has what standard compilers ask for, as `enable subgroups;` */
+#define YORWETHUL_PORTABLE 2u       /* the text has what standard compilers ask for, as `enable subgroups;`, and begins
+                                     * with the directives of the module's filters of diagnostics */
 #define YORWETHUL_DECIMAL_FLOATS 4u /* floats are written, by the digits that Rust gives them, and names may end in digits, as
                                      * pass2; else F32, F64 and F16 are refused, and such a name is pass2_ */
 

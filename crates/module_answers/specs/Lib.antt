@@ -2,5 +2,6 @@ pub mod Wants
 pub mod WriteOutcomes
 pub mod Refusals
 pub mod Shaders
+pub mod Opening
 pub mod Within
 pub mod StandardNames

@@ -1,1 +1,15 @@
 pub mod Text
+pub mod Said
+pub mod Numbers
+pub mod Flags
+pub mod Floats
+pub mod LetBe
+pub mod Seen
+pub mod Bindings
+pub mod Operators
+pub mod Types
+pub mod Expressions
+pub mod Statements
+pub mod Declarations
+pub mod Diagnostics
+pub mod Infos

@@ -1,10 +1,25 @@
 //! Functions, and what modules declare.
 
+ghost use Rattle.std.specs.Prelude.{◌≡◌, ℕ, List, IfOk, Some};
+ghost use Rattle.json.specs.Value.{value_view};
+ghost use Rattle.naga_json.specs.Declarations.{shader_stage_said, constant_said, override_said};
+ghost use Rattle.naga_json.specs.Declarations.{global_variable_said, local_variable_said};
+ghost use Rattle.naga_json.specs.Declarations.{function_argument_said, function_result_said};
+ghost use Rattle.naga_json.specs.Declarations.{mesh_stage_info_said};
+ghost use Rattle.naga_json.specs.Diagnostics.{filters_said};
+ghost use Rattle.naga_json.specs.Numbers.{unsigned_said};
+ghost use Rattle.naga_json.specs.Said.{same, tuple_said};
+ghost use Rattle.naga_json.specs.Seen.{SeenArgument, SeenConstant, SeenGlobal, SeenLocal};
+ghost use Rattle.naga_json.specs.Seen.{SeenOverride, filters_of, seen_argument, seen_constant};
+ghost use Rattle.naga_json.specs.Seen.{seen_global, seen_local, seen_override};
+
+use crate::diagnostics::filters_of;
 use crate::error::{JsonKind, Problem, ReadError};
 use crate::let_be;
 use crate::shape::{
-    FromJson, expect_members, expect_members_beside, expect_null, fill, in_item, in_member,
-    item_of, items_of, member, members_of, mistyped, word,
+    FromJson, FromJsonUntold, expect_members, expect_members_beside, expect_null, fill,
+    fill_untold, in_item, in_member, item_of, items_of, member, members_of, mistyped,
+    optional_member, untold_member, word,
 };
 use crate::sizes::{expect_size_expressions, fill_size_overrides};
 use indexmap::IndexMap;
@@ -31,16 +46,28 @@ const SHADER_STAGE_WORDS: &[(&str, ShaderStage)] = &[
 ];
 
 impl FromJson for ShaderStage {
+    ghost Seen = { Self };
+
+    ghost seen = { same };
+
+    ghost said = { shader_stage_said };
+
     fn from_json(alloc: Global, value: &Value) -> Result<ShaderStage, ReadError> {
         word(alloc, value, SHADER_STAGE_WORDS)
     }
 }
 
 impl FromJson for Constant {
+    ghost Seen = { SeenConstant };
+
+    ghost seen = { seen_constant };
+
+    ghost said = { constant_said };
+
     fn from_json(alloc: Global, payload: &Value) -> Result<Constant, ReadError> {
         expect_members(alloc, payload, &["name", "ty", "init"])?;
         Ok(Constant {
-            name: member(alloc, payload, "name")?,
+            name: optional_member(alloc, payload, "name")?,
             ty: member(alloc, payload, "ty")?,
             init: member(alloc, payload, "init")?,
         })
@@ -48,18 +75,30 @@ impl FromJson for Constant {
 }
 
 impl FromJson for Override {
+    ghost Seen = { SeenOverride };
+
+    ghost seen = { seen_override };
+
+    ghost said = { override_said };
+
     fn from_json(alloc: Global, payload: &Value) -> Result<Override, ReadError> {
         expect_members(alloc, payload, &["name", "id", "ty", "init"])?;
         Ok(Override {
-            name: member(alloc, payload, "name")?,
-            id: member(alloc, payload, "id")?,
+            name: optional_member(alloc, payload, "name")?,
+            id: optional_member(alloc, payload, "id")?,
             ty: member(alloc, payload, "ty")?,
-            init: member(alloc, payload, "init")?,
+            init: optional_member(alloc, payload, "init")?,
         })
     }
 }
 
 impl FromJson for GlobalVariable {
+    ghost Seen = { SeenGlobal };
+
+    ghost seen = { seen_global };
+
+    ghost said = { global_variable_said };
+
     fn from_json(alloc: Global, payload: &Value) -> Result<GlobalVariable, ReadError> {
         expect_members(
             alloc,
@@ -74,49 +113,73 @@ impl FromJson for GlobalVariable {
             ],
         )?;
         Ok(GlobalVariable {
-            name: member(alloc, payload, "name")?,
+            name: optional_member(alloc, payload, "name")?,
             space: member(alloc, payload, "space")?,
-            binding: member(alloc, payload, "binding")?,
+            binding: optional_member(alloc, payload, "binding")?,
             ty: member(alloc, payload, "ty")?,
-            init: member(alloc, payload, "init")?,
-            memory_decorations: member(alloc, payload, "memory_decorations")?,
+            init: optional_member(alloc, payload, "init")?,
+            memory_decorations: optional_member(alloc, payload, "memory_decorations")?,
         })
     }
 }
 
 impl FromJson for LocalVariable {
+    ghost Seen = { SeenLocal };
+
+    ghost seen = { seen_local };
+
+    ghost said = { local_variable_said };
+
     fn from_json(alloc: Global, payload: &Value) -> Result<LocalVariable, ReadError> {
         expect_members(alloc, payload, &["name", "ty", "init"])?;
         Ok(LocalVariable {
-            name: member(alloc, payload, "name")?,
+            name: optional_member(alloc, payload, "name")?,
             ty: member(alloc, payload, "ty")?,
-            init: member(alloc, payload, "init")?,
+            init: optional_member(alloc, payload, "init")?,
         })
     }
 }
 
 impl FromJson for FunctionArgument {
+    ghost Seen = { SeenArgument };
+
+    ghost seen = { seen_argument };
+
+    ghost said = { function_argument_said };
+
     fn from_json(alloc: Global, payload: &Value) -> Result<FunctionArgument, ReadError> {
         expect_members(alloc, payload, &["name", "ty", "binding"])?;
         Ok(FunctionArgument {
-            name: member(alloc, payload, "name")?,
+            name: optional_member(alloc, payload, "name")?,
             ty: member(alloc, payload, "ty")?,
-            binding: member(alloc, payload, "binding")?,
+            binding: optional_member(alloc, payload, "binding")?,
         })
     }
 }
 
 impl FromJson for FunctionResult {
+    ghost Seen = { Self };
+
+    ghost seen = { same };
+
+    ghost said = { function_result_said };
+
     fn from_json(alloc: Global, payload: &Value) -> Result<FunctionResult, ReadError> {
         expect_members(alloc, payload, &["ty", "binding"])?;
         Ok(FunctionResult {
             ty: member(alloc, payload, "ty")?,
-            binding: member(alloc, payload, "binding")?,
+            binding: optional_member(alloc, payload, "binding")?,
         })
     }
 }
 
 impl FromJson for MeshStageInfo {
+    ghost Seen = { Self };
+
+    ghost seen = { same };
+
+    ghost said = { mesh_stage_info_said };
+
     fn from_json(alloc: Global, payload: &Value) -> Result<MeshStageInfo, ReadError> {
         expect_members_beside(alloc, payload, &["output_variable"], let_be::OF_MESH_INFO)?;
         Ok(MeshStageInfo {
@@ -139,8 +202,8 @@ const ENTRY_POINT_MEMBERS: &[&str] = &[
     "workgroup_size_overrides",
 ];
 
-impl FromJson for EntryPoint {
-    fn from_json(alloc: Global, payload: &Value) -> Result<EntryPoint, ReadError> {
+impl FromJsonUntold for EntryPoint {
+    fn from_json_untold(alloc: Global, payload: &Value) -> Result<EntryPoint, ReadError> {
         expect_members(alloc, payload, ENTRY_POINT_MEMBERS)?;
         if let Some(test) = payload.get("early_depth_test") {
             in_member(alloc, "early_depth_test", expect_null(alloc, test))?;
@@ -151,15 +214,21 @@ impl FromJson for EntryPoint {
             stage: member(alloc, payload, "stage")?,
             workgroup_size: member(alloc, payload, "workgroup_size")?,
             workgroup_size_overrides: [None, None, None],
-            function: member(alloc, payload, "function")?,
-            mesh_info: member(alloc, payload, "mesh_info")?,
-            task_payload: member(alloc, payload, "task_payload")?,
-            incoming_ray_payload: member(alloc, payload, "incoming_ray_payload")?,
+            function: untold_member(alloc, payload, "function")?,
+            mesh_info: optional_member(alloc, payload, "mesh_info")?,
+            task_payload: optional_member(alloc, payload, "task_payload")?,
+            incoming_ray_payload: optional_member(alloc, payload, "incoming_ray_payload")?,
         })
     }
 }
 
 impl FromJson for [u32; 3] {
+    ghost Seen = { List ℕ };
+
+    ghost seen = { same };
+
+    ghost said = { tuple_said 3 (unsigned_said 32) };
+
     fn from_json(alloc: Global, value: &Value) -> Result<[u32; 3], ReadError> {
         match items_of(alloc, value)?.as_slice() {
             [x, y, z] => Ok([
@@ -179,8 +248,8 @@ struct NamedExpression {
     label: String,
 }
 
-impl FromJson for IndexMap<Handle<Expression>, String> {
-    fn from_json(
+impl FromJsonUntold for IndexMap<Handle<Expression>, String> {
+    fn from_json_untold(
         alloc: Global,
         value: &Value,
     ) -> Result<IndexMap<Handle<Expression>, String>, ReadError> {
@@ -228,8 +297,8 @@ fn is_natural_number(text: &str) -> bool {
     has_digits && (text == "0" || !text.starts_with('0'))
 }
 
-impl FromJson for IndexMap<PredeclaredType, Handle<Type_>> {
-    fn from_json(
+impl FromJsonUntold for IndexMap<PredeclaredType, Handle<Type_>> {
+    fn from_json_untold(
         alloc: Global,
         value: &Value,
     ) -> Result<IndexMap<PredeclaredType, Handle<Type_>>, ReadError> {
@@ -285,27 +354,27 @@ const SPECIAL_TYPES_MEMBERS: &[&str] = &[
     "ray_vertex_return",
 ];
 
-impl FromJson for SpecialTypes {
-    fn from_json(alloc: Global, payload: &Value) -> Result<SpecialTypes, ReadError> {
+impl FromJsonUntold for SpecialTypes {
+    fn from_json_untold(alloc: Global, payload: &Value) -> Result<SpecialTypes, ReadError> {
         expect_members(alloc, payload, SPECIAL_TYPES_MEMBERS)?;
         let mut predeclared_types = IndexMap::new(alloc);
-        fill(alloc, payload, "predeclared_types", &mut predeclared_types)?;
+        fill_untold(alloc, payload, "predeclared_types", &mut predeclared_types)?;
         Ok(SpecialTypes {
-            external_texture_params: member(alloc, payload, "external_texture_params")?,
-            external_texture_transfer_function: member(
+            external_texture_params: optional_member(alloc, payload, "external_texture_params")?,
+            external_texture_transfer_function: optional_member(
                 alloc,
                 payload,
                 "external_texture_transfer_function",
             )?,
-            ray_desc: member(alloc, payload, "ray_desc")?,
-            ray_intersection: member(alloc, payload, "ray_intersection")?,
-            ray_vertex_return: member(alloc, payload, "ray_vertex_return")?,
+            ray_desc: optional_member(alloc, payload, "ray_desc")?,
+            ray_intersection: optional_member(alloc, payload, "ray_intersection")?,
+            ray_vertex_return: optional_member(alloc, payload, "ray_vertex_return")?,
             predeclared_types,
         })
     }
 }
 
-/// The members of [`Function`].
+/// The members of [`Function`], and the leaf of its filters, which is looked at with the module's.
 const FUNCTION_MEMBERS: &[&str] = &[
     "name",
     "result",
@@ -314,11 +383,12 @@ const FUNCTION_MEMBERS: &[&str] = &[
     "expressions",
     "named_expressions",
     "body",
+    "diagnostic_filter_leaf",
 ];
 
-impl FromJson for Function {
-    fn from_json(alloc: Global, value: &Value) -> Result<Function, ReadError> {
-        expect_members_beside(alloc, value, FUNCTION_MEMBERS, let_be::OF_FUNCTION)?;
+impl FromJsonUntold for Function {
+    fn from_json_untold(alloc: Global, value: &Value) -> Result<Function, ReadError> {
+        expect_members(alloc, value, FUNCTION_MEMBERS)?;
         let mut function = Function::new(alloc);
         fill_function(alloc, value, &mut function)?;
         Ok(function)
@@ -336,13 +406,13 @@ fn fill_function(alloc: Global, value: &Value, function: &mut Function) -> Resul
         &mut function.local_variables,
     )?;
     fill(alloc, value, "expressions", &mut function.expressions)?;
-    fill(
+    fill_untold(
         alloc,
         value,
         "named_expressions",
         &mut function.named_expressions,
     )?;
-    fill(alloc, value, "body", &mut function.body)
+    fill_untold(alloc, value, "body", &mut function.body)
 }
 
 /// The members of [`Module`].
@@ -355,20 +425,27 @@ const MODULE_MEMBERS: &[&str] = &[
     "global_expressions",
     "functions",
     "entry_points",
+    "diagnostic_filters",
+    "diagnostic_filter_leaf",
 ];
 
-impl FromJson for Module {
-    fn from_json(alloc: Global, value: &Value) -> Result<Module, ReadError> {
+impl FromJsonUntold for Module {
+    fn from_json_untold(alloc: Global, value: &Value) -> Result<Module, ReadError>
+        ensures { IfOk result (λ m. filters_said (value_view value.now) ≡ Some (filters_of m)) }
+    {
         expect_members_beside(alloc, value, MODULE_MEMBERS, let_be::OF_MODULE)?;
         let mut module = Module::new(alloc);
         fill_module(alloc, value, &mut module)?;
+        let filters = filters_of(alloc, value)?;
+        module.diagnostic_filters = filters.nodes;
+        module.diagnostic_filter_leaf = filters.leaf;
         Ok(module)
     }
 }
 
 fn fill_module(alloc: Global, value: &Value, module: &mut Module) -> Result<(), ReadError> {
-    fill(alloc, value, "types", &mut module.types)?;
-    fill(alloc, value, "special_types", &mut module.special_types)?;
+    fill_untold(alloc, value, "types", &mut module.types)?;
+    fill_untold(alloc, value, "special_types", &mut module.special_types)?;
     fill(alloc, value, "constants", &mut module.constants)?;
     fill(alloc, value, "overrides", &mut module.overrides)?;
     fill(
@@ -383,7 +460,7 @@ fn fill_module(alloc: Global, value: &Value, module: &mut Module) -> Result<(), 
         "global_expressions",
         &mut module.global_expressions,
     )?;
-    fill(alloc, value, "functions", &mut module.functions)?;
-    fill(alloc, value, "entry_points", &mut module.entry_points)?;
+    fill_untold(alloc, value, "functions", &mut module.functions)?;
+    fill_untold(alloc, value, "entry_points", &mut module.entry_points)?;
     fill_size_overrides(alloc, value, module)
 }

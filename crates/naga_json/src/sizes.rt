@@ -2,7 +2,7 @@
 //! there, where a module here has an override.
 
 use crate::error::{Problem, ReadError};
-use crate::shape::{FromJson, in_item, in_member, item_of, items_of};
+use crate::shape::{FromJsonUntold, in_item, in_member, item_of, items_of};
 use json::Value;
 use naga_ir::{Expression, Handle, Literal, Module, Override, Type_, TypeInner};
 use std::alloc::Global;
@@ -14,8 +14,8 @@ const MEMBER: &str = "workgroup_size_overrides";
 #[derive(Clone, Copy)]
 struct SizeExpressions([Option<Handle<Expression>>; 3]);
 
-impl FromJson for SizeExpressions {
-    fn from_json(alloc: Global, value: &Value) -> Result<SizeExpressions, ReadError> {
+impl FromJsonUntold for SizeExpressions {
+    fn from_json_untold(alloc: Global, value: &Value) -> Result<SizeExpressions, ReadError> {
         match items_of(alloc, value)?.as_slice() {
             [x, y, z] => Ok(SizeExpressions([
                 item_of(alloc, x, 0)?,
@@ -32,7 +32,11 @@ impl FromJson for SizeExpressions {
 fn size_expressions(alloc: Global, entry_point: &Value) -> Result<SizeExpressions, ReadError> {
     match entry_point.get(MEMBER) {
         Some(sizes) if !sizes.is_null() => {
-            in_member(alloc, MEMBER, SizeExpressions::from_json(alloc, sizes))
+            in_member(
+                alloc,
+                MEMBER,
+                SizeExpressions::from_json_untold(alloc, sizes),
+            )
         }
         _ => Ok(SizeExpressions([None, None, None])),
     }

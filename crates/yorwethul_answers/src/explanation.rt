@@ -2,7 +2,9 @@
 
 use crate::texts::write_in;
 use crate::untyped::types_before;
-use module_answers::{NoOutcome, Shader, Unasked, WriteOutcome, refusal_line, untyped_line};
+use module_answers::{
+    NoOutcome, Shader, Unasked, WriteOutcome, refusal_line, rule_name_line, untyped_line,
+};
 use module_positions::{
     JsonHolder, MarkedRoot, fault_text, labelled_position, listed_position, refused_position,
     root_at, root_spots,
@@ -37,6 +39,11 @@ pub fn explained(
         Err(NoOutcome::TooLong) => {
             not_written(format!(in alloc; "refused: {}\n", NoOutcome::TooLong))
         }
+        Err(NoOutcome::RuleName(filter)) => {
+            let line = rule_name_line(alloc, filter, shader.holder)?;
+            not_written(format!(in alloc; "refused: {line}\n"))
+        }
+        Err(NoOutcome::Memory(error)) => Err(error),
     }
 }
 

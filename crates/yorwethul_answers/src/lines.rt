@@ -4,7 +4,9 @@ use crate::names::names_beside;
 use crate::texts::write_in;
 use fault_details::explain;
 use json::Scratch;
-use module_answers::{NoOutcome, Shader, Unasked, WriteOutcome, holder_of, info_within};
+use module_answers::{
+    NoOutcome, Shader, UNNAMED_RULE, Unasked, WriteOutcome, filter_position, holder_of, info_within,
+};
 use module_limits::Limits;
 use module_positions::{
     JsonHolder, JsonPosition, JsonRefusalPosition, NESTS_TOO_DEEP, label_at, label_of,
@@ -243,6 +245,12 @@ fn tell_shader(
             tell_unaccepted(alloc, shader, unaccepted, members)
         }
         Err(NoOutcome::TooLong) => tell_limited(alloc, NoOutcome::TooLong, members),
+        Err(NoOutcome::RuleName(filter)) => {
+            let position = filter_position(alloc, filter, shader.holder)?;
+            tell(alloc, "position", position, members)?;
+            tell_limited(alloc, UNNAMED_RULE, members)
+        }
+        Err(NoOutcome::Memory(error)) => Err(error),
     }
 }
 
@@ -281,7 +289,8 @@ fn tell_unasked(
     }
 }
 
-/// Tells that the module is past a limit: at no position, and with no text in front of it.
+/// Tells that the module is refused before anything of its text: past a limit, at no position, or for a
+/// filter of diagnostics.
 fn tell_limited(
     alloc: Global,
     reason: impl Display + Drop,

@@ -6,7 +6,7 @@ use crate::names::names_line;
 use crate::texts::write_in;
 use module_answers::{
     NoOutcome, Shader, Unasked, WriteOutcome, holder_of, info_within, layout_table,
-    name_as_standard, refusal_line, untyped_line,
+    name_as_standard, refusal_line, rule_name_line, untyped_line,
 };
 use module_positions::{JsonHolder, fault_line};
 use naga_acceptance::{Unaccepted, unaccepted};
@@ -203,6 +203,10 @@ fn print_text<O: Write, E: Write>(
         Ok(written) => print_written(alloc, written, shader, out, err),
         Err(NoOutcome::NotAccepted(fault)) => refuse_unaccepted(alloc, shader, fault, err),
         Err(NoOutcome::TooLong) => refuse(NoOutcome::TooLong, err),
+        Err(NoOutcome::RuleName(filter)) => {
+            refuse_line(rule_name_line(alloc, filter, shader.holder), err)
+        }
+        Err(NoOutcome::Memory(_)) => fail(Failure::Memory, err),
     }
 }
 
@@ -280,10 +284,8 @@ fn print_written<O: Write, E: Write>(
     match (answer, refusal) {
         (Ok(()), _) => print(sink, out, err),
         (Err(_), Some(refusal)) => {
-            match refusal_line(alloc, &shader.module, refusal, shader.holder) {
-                Ok(line) => refuse(line, err),
-                Err(_) => fail(Failure::Memory, err),
-            }
+            let line = refusal_line(alloc, &shader.module, refusal, shader.holder);
+            refuse_line(line, err)
         }
         (Err(error), None) => tell_error(error, err),
     }
@@ -346,6 +348,14 @@ fn not_accepted<E: Write>(line: Result<String, AllocError>, err: &mut E) -> u8 {
             let _ = writeln!(err, "not accepted: {line}");
             REFUSED
         }
+        Err(_) => fail(Failure::Memory, err),
+    }
+}
+
+/// Tells what a module is refused for.
+fn refuse_line<E: Write>(line: Result<String, AllocError>, err: &mut E) -> u8 {
+    match line {
+        Ok(line) => refuse(line, err),
         Err(_) => fail(Failure::Memory, err),
     }
 }

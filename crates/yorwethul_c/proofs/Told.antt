@@ -22,6 +22,7 @@ use Rattle.naga_acceptance.specs.FirstFaults.{IsFirstFault}
 use Rattle.naga_acceptance.specs.declared.faults.Unaccepted.{Unaccepted}
 use Rattle.naga_wgsl_out.specs.declared.unwritable.Refusal.{Refusal}
 use Rattle.module_positions.specs.Faults.{TellsFaultAt}
+use Rattle.module_answers.specs.Opening.{OpensWithNames, TellsRuleAt, opening}
 use Rattle.module_answers.specs.Shaders.{IsInfoOf, TellsUnasked, TellsUntypedAt, holder_of}
 use Rattle.module_answers.specs.declared.shaders.Shader.{Shader}
 use Rattle.module_limits.specs.Nesting.{nested_past}
@@ -191,6 +192,24 @@ not_written json flags writer from given m read info unwritten.TooLong told text
     was_asked json flags writer from given m read info known bits was_read (asked refl) is.accepted is.counted in
     let long : IsTooLong json flags = record { asked = asking; past = is.past } in
     said (TellsOfWriting json flags) status.TooLong told text long refl says
+not_written json flags writer from given m read info (unwritten.RuleName h) told text known bits was_read asked is
+    says =
+    said_that (TellsOfWriting json flags) (TellsRuleAt from h) status.Refused told text
+    (λ line. inr (record {
+      flags_are_known = known;
+      writer = writer;
+      has_bits = bits;
+      portable = is.0;
+      from = from;
+      m = given;
+      read = read;
+      was_read = was_read;
+      filter = h;
+      lacks = is.1;
+      line = line;
+    })) refl says
+not_written json flags writer from given m read info (unwritten.Memory error) told text known bits was_read asked is
+    says = lacking (TellsOfWriting json flags) told text refl says
 
 pub accepted_by : (json : List ℕ) (from : JsonHolder) (m : Module) (read : ModuleInfo) (found : Option Unaccepted) →
     WasRead json from m read → found ≡ None → is_none found ≡ is_accepted m read → IsAccepted json
@@ -212,13 +231,17 @@ stopped json flags writer from m info refusal (error.FmtError sink.Failed) told 
     let none : ⊥ = omega (arith, reason) in absurd none
 stopped json flags writer from m info refusal (error.FmtError (sink.Memory e)) told text reason is says = absurd reason
 stopped json flags writer from m info refusal (error.Custom e) told text reason is says =
-    said_that (TellsOfWriting json flags) (TellsAnyRefusal from m refusal) status.Refused told text (is tt) refl says.0
+    said_that (TellsOfWriting json flags) (TellsAnyRefusal from m refusal) status.Refused told text
+    (λ line. inl (is tt line)) refl says.0
 stopped json flags writer from m info refusal (error.Unimplemented e) told text reason is says =
-    said_that (TellsOfWriting json flags) (TellsAnyRefusal from m refusal) status.Refused told text (is tt) refl says.0
+    said_that (TellsOfWriting json flags) (TellsAnyRefusal from m refusal) status.Refused told text
+    (λ line. inl (is tt line)) refl says.0
 stopped json flags writer from m info refusal (error.UnsupportedRelationalFunction e) told text reason is says =
-    said_that (TellsOfWriting json flags) (TellsAnyRefusal from m refusal) status.Refused told text (is tt) refl says.0
+    said_that (TellsOfWriting json flags) (TellsAnyRefusal from m refusal) status.Refused told text
+    (λ line. inl (is tt line)) refl says.0
 stopped json flags writer from m info refusal (error.Unsupported kind value) told text reason is says =
-    said_that (TellsOfWriting json flags) (TellsAnyRefusal from m refusal) status.Refused told text (is tt) refl says.0
+    said_that (TellsOfWriting json flags) (TellsAnyRefusal from m refusal) status.Refused told text
+    (λ line. inl (is tt line)) refl says.0
 
 pub at_most_seven : (flags : ℕ) → flags < 4 → flags ≤ 7
 at_most_seven flags less = omega arith
@@ -249,14 +272,14 @@ module _ (json : List ℕ) (flags : ℕ) (writer : WriterFlags) (from : JsonHold
     (read info : ModuleInfo) (content : List ℕ) (known : flags ≤ 7) (bits : bits_of writer ≡ flags % 4)
     (was_read : WasRead json from given read) (asked : IsAsAsked (asks_decimal_floats flags) given m)
     (accepted : IsTrue (is_accepted given read))
-    (counted : IsCounted m read info) where
+    (counted : IsCounted m read info) (named : OpensWithNames writer given) where
   abbrev asking : WasAsked json flags
   asking = was_asked json flags writer from given m read info known bits was_read asked accepted counted
 
   -- an error that tells of the module is a refusal, which is told beside it
   refusing : (e : Error) (refusal : Option Refusal) (text : List ℕ) →
       (IsTrue (asks_decimal_floats flags) → IsDecimalUnlessWanting (Err e) m) →
-      FaithfulWriting writer m info (Err e) [] content 0 0 →
+      FaithfulWriting writer m info (Err e) (opening writer given) content 0 0 →
       TellsBeside (annotates_types writer) m info (Err e) refusal → TellsOfModule e →
       TellsAnyRefusal from m refusal text → IsRefused json flags text
   refusing e None text complete faithful beside tells line = absurd (beside tells)
@@ -273,14 +296,17 @@ module _ (json : List ℕ) (flags : ℕ) (writer : WriterFlags) (from : JsonHold
 
   pub wrote : (answer : Result Unit Error) (refusal : Option Refusal) (told : Status) (text : List ℕ) →
       (IsTrue (asks_decimal_floats flags) → IsDecimalUnlessWanting answer m) →
-      FaithfulWriting writer m info answer [] content 0 0 → AppendsItsText m info writer answer [] content →
+      FaithfulWriting writer m info answer (opening writer given) content 0 0 →
+      AppendsItsText m info writer answer (opening writer given) content →
       TellsBeside (annotates_types writer) m info answer refusal → length content ≤ longest_text →
       SaysOfWritten from m answer refusal content told text → TellsOfWriting json flags told text
   wrote (Ok tt) refusal told text complete faithful appends beside within is =
       let done : WasWritten json flags text =
       record {
         asked = asking;
-        faithful = subst (λ now. FaithfulWriting writer m info (Ok tt) [] now 0 0) (sym is.1) faithful;
+        named = named;
+        faithful = subst (λ now. FaithfulWriting writer m info (Ok tt) (opening writer given) now 0 0) (sym is.1)
+            faithful;
         text_is = is.1 ∙ appends;
         complete = complete;
         is_within = subst (λ t. length t ≤ longest_text) (sym is.1) within;

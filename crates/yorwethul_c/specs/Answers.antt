@@ -9,12 +9,14 @@ use Rattle.std.specs.Option.{IfSome}
 use Rattle.std.specs.Prelude.{drop, if◌then◌else◌, nat_le, Result, Ok, Err}
 use Rattle.naga_ir.specs.declared.module.Module.{Module}
 use Rattle.naga_info.specs.declared.info.ModuleInfo.{ModuleInfo}
-use Rattle.naga_back.specs.Flags.{annotates_types, bits_of}
+use Rattle.diagnostic_directives.specs.Directives.{LacksName}
+use Rattle.naga_back.specs.Flags.{annotates_types, bits_of, is_portable}
 use Rattle.naga_back.specs.declared.flags.WriterFlags.{WriterFlags}
 use Rattle.naga_acceptance.specs.FirstFaults.{IsFirstFault}
 use Rattle.naga_acceptance.specs.declared.faults.Unaccepted.{Unaccepted}
 use Rattle.module_semantics.specs.acceptance.Accepted.{is_accepted}
 use Rattle.module_positions.specs.Faults.{TellsFaultAt}
+use Rattle.module_answers.specs.Opening.{OpensWithNames, TellsRuleAt, opening}
 use Rattle.module_answers.specs.Refusals.{TellsRefusalAt}
 use Rattle.module_answers.specs.Shaders.{IsInfoOf, TellsUntypedAt, holder_of}
 use Rattle.module_answers.specs.Shaders as shaders
@@ -23,6 +25,7 @@ use Rattle.module_answers.specs.declared.shaders.Unasked.{Unasked}
 use Rattle.module_answers.specs.declared.shaders.Unasked.TheVariants as unasked
 use Rattle.naga_inference.specs.declared.errors.Untyped.{Untyped}
 use Rattle.module_positions.specs.declared.positions.JsonHolder.{JsonHolder}
+use Rattle.module_answers.specs.Within.{IsPastAfter}
 use Rattle.module_answers.specs.declared.within.NoOutcome.{NoOutcome}
 use Rattle.module_answers.specs.declared.within.NoOutcome.TheVariants as unwritten
 use Rattle.module_limits.specs.Nesting.{nested_past}
@@ -34,7 +37,6 @@ use Rattle.naga_refusals.specs.declared.error.Error.TheVariants as error
 use Rattle.naga_wgsl_out.specs.Checked.{IsCounted}
 use Rattle.naga_json.specs.declared.modules.Given.{Given}
 use Rattle.naga_wgsl_out.specs.Headline.{FaithfulWriting}
-use Rattle.naga_wgsl_out.specs.Within.{IsPastBound}
 use Rattle.naga_wgsl_out.specs.declared.unwritable.Refusal.{Refusal}
 use Rattle.decimal_floats.specs.Decimals.{IsDecimalModule, IsDecimalThroughout, keeping_digits}
 use Rattle.module_positions.specs.JsonNesting.{nest_too_deep}
@@ -130,20 +132,28 @@ pub record WasAsked (json : List ℕ) (flags : ℕ) : Type 0 where
   pub accepted : IsTrue (is_accepted given read)
   pub counted : IsCounted m read info
 
--- The text is that of an accepted module, written as asked, and faithfully. Where decimal floats are
--- asked for, each finite one has a numeral.
+-- the directives that stand in front of the text that was asked for
+abbrev pub asked_opening : {json : List ℕ} {flags : ℕ} → WasAsked json flags → List ℕ
+asked_opening asked = opening asked.writer asked.given
+
+-- The text is that of an accepted module, written as asked, and faithfully, after its directives, each
+-- of which has a name for its rule. Where decimal floats are asked for, each finite one has a numeral.
 pub record WasWritten (json : List ℕ) (flags : ℕ) (text : List ℕ) : Type 0 where
   pub asked : WasAsked json flags
-  pub faithful : FaithfulWriting asked.writer asked.m asked.info (Ok tt) [] text 0 0
-  pub text_is : text ≡ printed_program (written_program asked.m asked.info asked.writer)
+  pub named : OpensWithNames asked.writer asked.given
+  pub faithful :
+      FaithfulWriting asked.writer asked.m asked.info (Ok tt) (asked_opening asked) text 0 0
+  pub text_is :
+      text ≡ asked_opening asked
+      ++ printed_program (written_program asked.m asked.info asked.writer)
   pub complete : IsTrue (asks_decimal_floats flags) → IsDecimalThroughout asked.m
   pub is_within : length text ≤ longest_text
 
--- The text of an accepted module, written as asked, would be longer than it may be; and of one that is
--- refused, what stands in front of what it is refused for.
+-- The text of an accepted module, written as asked, would be longer than it may be, with its
+-- directives; and of one that is refused, what stands in front of what it is refused for.
 pub record IsTooLong (json : List ℕ) (flags : ℕ) : Type 0 where
   pub asked : WasAsked json flags
-  pub past : IsPastBound asked.writer longest_text asked.m asked.info
+  pub past : IsPastAfter asked.writer longest_text (asked_opening asked) asked.m asked.info
 
 -- The writer refused an accepted module, for a listed construct that stands there and is the first,
 -- and this line tells it with its position. Where decimal floats are asked for, each finite one has a
@@ -152,11 +162,27 @@ pub record IsRefused (json : List ℕ) (flags : ℕ) (text : List ℕ) : Type 0 
   pub asked : WasAsked json flags
   pub error : Error
   pub beginning : List ℕ
-  pub faithful : FaithfulWriting asked.writer asked.m asked.info (Err error) [] beginning 0 0
+  pub faithful :
+      FaithfulWriting asked.writer asked.m asked.info (Err error) (asked_opening asked) beginning 0 0
   pub refusal : Refusal
   pub beside : TellsRefusal (annotates_types asked.writer) asked.m asked.info (Err error) refusal
   pub line : TellsRefusalAt asked.from asked.m refusal text
   pub complete : IsTrue (asks_decimal_floats flags) → IsDecimalThroughout asked.m
+
+-- A module was read whose text is to begin with directives. The rule of a filter of diagnostics that
+-- is in force has no name, and this line tells it with its position.
+pub record LacksRuleName (json : List ℕ) (flags : ℕ) (text : List ℕ) : Type 0 where
+  pub flags_are_known : flags ≤ 7
+  pub writer : WriterFlags
+  pub has_bits : bits_of writer ≡ flags % 4
+  pub portable : IsTrue (is_portable writer)
+  pub from : JsonHolder
+  pub m : Module
+  pub read : ModuleInfo
+  pub was_read : WasRead json from m read
+  pub filter : ℕ
+  pub lacks : LacksName m filter
+  pub line : TellsRuleAt from filter text
 
 -- A module was read of which this is nested too deep.
 pub record IsTooDeep (json : List ℕ) : Type 0 where
@@ -210,10 +236,14 @@ TellsOfReading json _ text = ⊥
 abbrev pub TellsOfFault : (json text : List ℕ) → Type 0
 TellsOfFault json text = IsNotAccepted json text ⊎ IsUntyped json text
 
+-- of a module that is refused
+abbrev pub TellsOfRefusing : (json : List ℕ) (flags : ℕ) → (text : List ℕ) → Type 0
+TellsOfRefusing json flags text = IsRefused json flags text ⊎ LacksRuleName json flags text
+
 -- of a module that is to be written
 abbrev pub TellsOfWriting : (json : List ℕ) (flags : ℕ) → Status → (text : List ℕ) → Type 0
 TellsOfWriting json flags status.Done text = WasWritten json flags text
-TellsOfWriting json flags status.Refused text = IsRefused json flags text
+TellsOfWriting json flags status.Refused text = TellsOfRefusing json flags text
 TellsOfWriting json flags status.TooLong text = IsTooLong json flags
 TellsOfWriting json flags status.NotAccepted text = TellsOfFault json text
 TellsOfWriting json flags status.UnknownFlag text = 8 ≤ flags
@@ -259,6 +289,9 @@ abbrev pub SaysOfUnwritten : JsonHolder → Module → ModuleInfo → NoOutcome 
 SaysOfUnwritten from m info (unwritten.NotAccepted fault) told text =
     SaysThat (TellsFaultAt from m info fault) status.NotAccepted told text
 SaysOfUnwritten from m info unwritten.TooLong told text = Says status.TooLong told text
+SaysOfUnwritten from m info (unwritten.RuleName h) told text =
+    SaysThat (TellsRuleAt from h) status.Refused told text
+SaysOfUnwritten from m info (unwritten.Memory error) told text = LacksMemory told text
 
 -- what is told of the writer's answer, of a refusal beside it, and of what its sink holds
 abbrev pub SaysOfWritten : JsonHolder → Module → Result Unit Error → Option Refusal →

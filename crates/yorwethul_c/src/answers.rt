@@ -4,6 +4,7 @@ ghost use Rattle.std.specs.Prelude.{◌≡◌, ◌<◌, ◌≤◌, ◌%◌, ℕ,
 ghost use Rattle.std.specs.Prelude.{string_bytes};
 ghost use Rattle.naga_back.specs.Flags.{bits_of};
 ghost use Rattle.module_positions.specs.Faults.{TellsFaultAt};
+ghost use Rattle.module_answers.specs.Opening.{TellsRuleAt};
 ghost use Rattle.module_answers.specs.Shaders.{IsInfoOf, holder_of};
 ghost use Rattle.module_limits.specs.Nesting.{nested_past};
 ghost use Rattle.yorwethul_c.specs.Answers.{IsGivenIn, deepest_nesting};
@@ -15,13 +16,13 @@ ghost use Rattle.yorwethul_c.specs.Answers.{TellsOfWriting, WasRead};
 use crate::status::{Status, status_of};
 use bitflags::Flags;
 use module_answers::{
-    NoOutcome, Shader, Unasked, WriteOutcome, holder_of, info_within, refusal_line, untyped_line,
-    write_decimal_within, write_within,
+    NoOutcome, Shader, Unasked, WriteOutcome, holder_of, info_within, refusal_line, rule_name_line,
+    untyped_line, write_decimal_within, write_within,
 };
 use module_positions::{JsonHolder, NESTS_TOO_DEEP, fault_line, nests_too_deep};
 use naga_acceptance::{Unaccepted, unaccepted};
 use naga_back::WriterFlags;
-use naga_ir::Module;
+use naga_ir::{DiagnosticFilterNode, Handle, Module};
 use naga_json::{Given, ReadError, read_given};
 use naga_wgsl_out::wgsl::Refusal;
 use naga_wgsl_shared::Error;
@@ -259,6 +260,8 @@ fn not_written(alloc: Global, shader: &Shader, unwritten: NoOutcome) -> Answer
     match unwritten {
         NoOutcome::NotAccepted(fault) => not_accepted(alloc, shader, fault),
         NoOutcome::TooLong => told(alloc, Status::TooLong, "text too long"),
+        NoOutcome::RuleName(filter) => unnamed_rule(alloc, shader, filter),
+        NoOutcome::Memory(_) => out_of_memory(alloc),
     }
 }
 
@@ -284,6 +287,15 @@ pub(crate) fn not_accepted(alloc: Global, shader: &Shader, fault: Unaccepted) ->
 {
     let text = fault_line(alloc, &shader.module, &shader.info, fault, shader.holder);
     settled(alloc, Status::NotAccepted, text)
+}
+
+/// Tells where a filter of diagnostics stands whose rule has no name.
+fn unnamed_rule(alloc: Global, shader: &Shader, filter: Handle<DiagnosticFilterNode>) -> Answer
+    ensures { SaysThat (TellsRuleAt shader.now.holder filter) Status.Refused result.status
+        (string_bytes result.text) }
+{
+    let text = rule_name_line(alloc, filter, shader.holder);
+    settled(alloc, Status::Refused, text)
 }
 
 /// A status with what is told of it.

@@ -3,8 +3,10 @@ use Rattle.std.proofs.Common.{ap, is_ok, length, refl, string_bytes, subst, sym}
 use Rattle.naga_acceptance.specs.FirstFaults.{IsFirstFault}
 use Rattle.naga_wgsl_out.specs.Checked.{IsCounted}
 use Rattle.naga_wgsl_out.specs.Within.{unfailed}
+use Rattle.module_answers.specs.Opening.{opening}
 use Rattle.module_answers.specs.WriteOutcomes.{AnswersWriting}
 use Rattle.module_answers.proofs.Bounded.{as_kept, is_too_long}
+use Rattle.module_answers.proofs.Openings.{without_opening}
 use Rattle.module_answers.proofs.within.write_within.Goals as goal
 
 pub returns-in-Some-clause-accepted : goal.returns-in-Some-clause-accepted
@@ -18,16 +20,18 @@ returns-in-Some-clause-counted c =
 pub returns-in-Some-clause-written : goal.returns-in-Some-clause-written
 returns-in-Some-clause-written c =
     let flags = c.args.flags in
+    let given = c.args.«module».now in
     let m = c.args.«module».now in
     let info = c.write.new.info in
     let w = c.in-Ok.written in
     let v = c.in-Some.whole in
     let written =
-    subst (λ r. IfOk r (λ w. AnswersWriting flags m info w.answer w.refusal c.new-empty.result.text
-    w.sink.text c.new-empty.result.failures w.sink.failures)) c.in-Ok.is c.write.ensures.written in
+    subst (λ r. IfOk r (λ w. AnswersWriting flags m info w.answer w.refusal c.in_ok-opening.field-0.text
+    w.sink.text c.in_ok-opening.field-0.failures w.sink.failures)) c.in-Ok.is c.write.ensures.written in
     let begun = subst (λ s. AnswersWriting flags m info w.answer w.refusal s.text w.sink.text s.failures
-    w.sink.failures) c.new-empty.ensures written in
-    as_kept flags m info w.answer v.answer w.refusal v.refusal w.sink.text (string_bytes v.sink) w.sink.failures
+    w.sink.failures) c.in_ok-opening.ensures.text written in
+    as_kept flags m info w.answer v.answer w.refusal v.refusal (opening flags given) w.sink.text
+    (string_bytes v.sink) w.sink.failures
     (subst (λ o. IfSome o (λ v. v.answer ≡ unfailed w.answer)) c.in-Some.is c.within_its_limit.ensures.answer)
     (subst (λ o. IfSome o (λ v. v.refusal ≡ w.refusal)) c.in-Some.is c.within_its_limit.ensures.refusal)
     (subst (λ o. IfSome o (λ v. string_bytes v.sink ≡ w.sink.text)) c.in-Some.is c.within_its_limit.ensures.text)
@@ -41,18 +45,19 @@ returns-in-Some-clause-within c =
 pub returns-in-None-clause-unwritten : goal.returns-in-None-clause-unwritten
 returns-in-None-clause-unwritten c =
     let flags = c.args.flags in
+    let given = c.args.«module».now in
     let m = c.args.«module».now in
     let info = c.write.new.info in
     let w = c.in-Ok.written in
     let written =
-    subst (λ r. IfOk r (λ w. AnswersWriting flags m info w.answer w.refusal c.new-empty.result.text
-    w.sink.text c.new-empty.result.failures w.sink.failures)) c.in-Ok.is c.write.ensures.written in
+    subst (λ r. IfOk r (λ w. AnswersWriting flags m info w.answer w.refusal c.in_ok-opening.field-0.text
+    w.sink.text c.in_ok-opening.field-0.failures w.sink.failures)) c.in-Ok.is c.write.ensures.written in
     is_too_long flags c.args.bound c.args.«module».now m c.args.info.now info w.answer w.refusal w.sink.text
     w.sink.failures
     (sym c.write.ensures.accepted ∙ ap is_ok c.in-Ok.is)
     (subst (λ r. IfOk r (λ _. IsCounted m c.args.info.now info)) c.in-Ok.is c.write.ensures.counted)
     (subst (λ s. AnswersWriting flags m info w.answer w.refusal s.text w.sink.text s.failures w.sink.failures)
-    c.new-empty.ensures written)
+    c.in_ok-opening.ensures.text written)
     (subst (λ o. IfNone o (c.args.bound < length w.sink.text)) c.in-None.is c.within_its_limit.ensures.too_long)
 
 pub returns-in-Err-clause-unwritten : goal.returns-in-Err-clause-unwritten
@@ -61,3 +66,8 @@ returns-in-Err-clause-unwritten c = (
   refl,
   subst (λ r. IfErr r (λ _. c.write.new.info ≡ c.args.info.now)) c.in-Err.is c.write.ensures.untouched,
 )
+
+pub returns-in_err-opening-clause-unwritten : goal.returns-in_err-opening-clause-unwritten
+returns-in_err-opening-clause-unwritten c =
+    without_opening c.args.flags c.args.bound c.args.«module».now c.args.info.now c.in_err-opening.field-0
+    c.in_err-opening.ensures.none

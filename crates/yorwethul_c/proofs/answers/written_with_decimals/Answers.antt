@@ -1,5 +1,6 @@
-use Rattle.std.proofs.Common.{◌≡◌, IfErr, IfOk, length, subst, string_bytes, ◌≤◌, []}
-use Rattle.std.specs.Prelude.{IsTrue}
+use Rattle.std.proofs.Common.{◌≡◌, IfErr, IfOk, length, subst, string_bytes, ◌≤◌}
+use Rattle.std.specs.Prelude.{IsTrue, OnOk}
+use Rattle.module_answers.specs.Opening.{OpensWithNames, opening}
 use Rattle.module_answers.specs.Wants.{IsDecimalUnlessWanting}
 use Rattle.module_answers.specs.Within.{IsUnwritten}
 use Rattle.module_answers.specs.WriteOutcomes.{AnswersWriting}
@@ -42,12 +43,14 @@ returns-in-Ok c =
     let complete =
     subst (λ r. IfOk r (λ w. IsDecimalUnlessWanting w.answer m)) c.in-Ok.is c.write_decimal_within.ensures.complete in
     let answers =
-    subst (λ r. IfOk r (λ w. AnswersWriting writer m info w.answer w.refusal [] (string_bytes w.sink) 0 0))
+    subst (λ r. IfOk r (λ w. AnswersWriting writer m info w.answer w.refusal (opening writer given)
+    (string_bytes w.sink) 0 0))
     c.in-Ok.is c.write_decimal_within.ensures.written in
+    let named = subst (λ r. OnOk r (OpensWithNames writer given)) c.in-Ok.is c.write_decimal_within.ensures.named in
     let within = subst (λ r. IfOk r (λ w. length (string_bytes w.sink) ≤ longest_text)) c.in-Ok.is
     c.write_decimal_within.ensures.within in
     λ json was_read. wrote json c.args.flags writer c.args.shader.now.holder given m read info (string_bytes w.sink)
     c.requires.known c.writer_flags.ensures was_read
     (with_decimal_floats c.args.flags given m c.requires.decimal decimal)
-    accepted counted w.answer w.refusal _ _ (λ _. complete) answers.faithful answers.text answers.refusal within
+    accepted counted named w.answer w.refusal _ _ (λ _. complete) answers.faithful answers.text answers.refusal within
     c.told_written.ensures
