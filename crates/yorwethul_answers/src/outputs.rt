@@ -50,14 +50,19 @@ fn is_there_as_folder<R: Files>(files: &R, name: &str) -> bool {
     }
 }
 
-/// Whether a file is no module's own. Only what is so named is found to be.
+/// Whether a file is no module's own, by its name.
 fn check_name<'a>(name: &str, invocation: &Invocation<'a>) -> Result<(), Failure<'a>> {
     for module in invocation.modules.iter() {
-        if *module == name {
+        if from_here(*module) == from_here(name) {
             return Err(Failure::Itself(*module));
         }
     }
     Ok(())
+}
+
+/// A path without the `./` that may stand in front.
+fn from_here(path: &str) -> &str {
+    path.strip_prefix("./").unwrap_or(path)
 }
 
 /// Whether each module has an output of its own in the folder, which is no module itself.

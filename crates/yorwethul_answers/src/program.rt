@@ -5,7 +5,7 @@ use crate::ending::{FAILED, status_of, status_of_both};
 use crate::lines::{answer_lines, object_about};
 use crate::made::made_text;
 use crate::outputs::{Outputs, output_of, outputs_of};
-use clap::ErrorKind;
+use clap::error::ErrorKind;
 use std::alloc::Global;
 use std::fmt::Display;
 use std::io::{BufReader, BufWriter, Read, Write};

@@ -46,6 +46,7 @@ impl fmt::Display for Failure<'_> {
 }
 
 /// Why the program cannot go on, without the name of the file.
+#[derive(Drop)]
 pub struct Reason<'a, 'b>(pub &'b Failure<'a>);
 
 impl fmt::Display for Reason<'_, '_> {

@@ -1,6 +1,7 @@
 //! The words that the program is called with.
 
-use clap::{Arg, ArgAction, ArgMatches, Command, Error, ErrorKind, value_parser};
+use clap::error::ErrorKind;
+use clap::{Arg, ArgAction, ArgMatches, Command, Error, value_parser};
 use module_limits::Limits;
 use std::alloc::{AllocError, Global};
 
