@@ -59,7 +59,7 @@ pub struct Invocation<'a> {
 /// version.
 pub fn invocation_of(alloc: Global, words: &[String]) -> Result<Invocation<'_>, Error> {
     let matches = command(alloc)?.try_get_matches_from(words)?;
-    let invocation = invocation_in(alloc, &matches)?;
+    let invocation = invocation_in(alloc, matches)?;
     match asking_for_one(&invocation) {
         Some(message) => Err(command(alloc)?.error(ErrorKind::ArgumentConflict, message)?),
         None => Ok(invocation),
@@ -81,29 +81,27 @@ fn asking_for_one(invocation: &Invocation<'_>) -> Option<&'static str> {
 
 fn invocation_in<'a>(
     alloc: Global,
-    matches: &ArgMatches<'a>,
+    matches: ArgMatches<'a>,
 ) -> Result<Invocation<'a>, AllocError> {
+    let modules = match matches.get_strs("module") {
+        Some(named) => named.to_vec(alloc)?,
+        None => ["-"].to_vec(alloc)?,
+    };
     Ok(Invocation {
-        task: task_in(matches),
-        style: Style {
-            explicit_types: matches.get_flag("explicit-types"),
-            plain: matches.get_flag("plain"),
-            names: matches.get_flag("names"),
-            limits: limits_in(matches),
-        },
-        modules: modules_in(alloc, matches)?,
+        task: task_in(&matches),
+        style: style_in(&matches),
+        modules,
         info: matches.get_str("info"),
         output: named_output(matches.get_str("output")),
     })
 }
 
-fn modules_in<'a>(
-    alloc: Global,
-    matches: &ArgMatches<'a>,
-) -> Result<Vec<&'a str>, AllocError> {
-    match matches.get_strs("module") {
-        Some(named) => named.to_vec(alloc),
-        None => ["-"].to_vec(alloc),
+fn style_in(matches: &ArgMatches<'_>) -> Style {
+    Style {
+        explicit_types: matches.get_flag("explicit-types"),
+        plain: matches.get_flag("plain"),
+        names: matches.get_flag("names"),
+        limits: limits_in(matches),
     }
 }
 
