@@ -1,9 +1,7 @@
 //! Which identifier of a text stands for which item of its module.
 
-ghost use Rattle.std.specs.Prelude.{◌≡◌, IfErr, IfOk, IsTrue, string_bytes};
+ghost use Rattle.std.specs.Prelude.{◌≡◌, IfErr, IfOk, string_bytes};
 ghost use Rattle.module_semantics.specs.Names.{module_names};
-ghost use Rattle.module_semantics.specs.acceptance.Accepted.{is_accepted};
-ghost use Rattle.naga_info.specs.declared.info.ModuleInfo.{ModuleInfo};
 ghost use Rattle.naga_wgsl_out.specs.ModuleRefusals.{IsNamesRefusal};
 ghost use Rattle.name_maps.specs.NameMaps.{map_text, name_map};
 ghost use Rattle.serde_json.specs.View.{view};
@@ -48,9 +46,7 @@ pub fn names_text(alloc: Global, module: &Module) -> Result<String, Error>
 /// of their labels ([`keep_digits`]); else leaves the module as it is. Where names alone are asked
 /// for, this is set here and nowhere else, as [`write_decimal`](crate::write_decimal) sets it of a text.
 pub fn name_as_standard(module: &mut Module, is_standard: bool)
-    ensures named { «module».new ≡ named_as is_standard «module».old }
-    ensures accepted { (info : ModuleInfo) → IsTrue (is_accepted «module».old info) →
-        IsTrue (is_accepted «module».new info) }
+    ensures { «module».new ≡ named_as is_standard «module».old }
 {
     if is_standard {
         keep_digits(module);

@@ -1,9 +1,7 @@
 //! Which identifiers the items of a module have, and where the members of its structs stand under these, as a
 //! status and a text.
 
-ghost use Rattle.std.specs.Prelude.{◌≡◌, ◌≤◌, ℕ, IsTrue, List, string_bytes};
-ghost use Rattle.naga_info.specs.declared.info.ModuleInfo.{ModuleInfo};
-ghost use Rattle.module_semantics.specs.acceptance.Accepted.{is_accepted};
+ghost use Rattle.std.specs.Prelude.{◌≡◌, ◌≤◌, ℕ, List, string_bytes};
 ghost use Rattle.yorwethul_c.specs.Answers.{WasRead};
 ghost use Rattle.yorwethul_c.specs.NamedItems.{SaysOfUnnamed, TellsOfLayouts, TellsOfNames};
 ghost use Rattle.yorwethul_c.specs.NamedItems.{named_under};
@@ -92,9 +90,7 @@ fn laid_out_shader(alloc: Global, shader: &mut Shader, flags: u32) -> Answer
 
 /// Lets the names of the module be those of its text under these flags.
 fn name_under(module: &mut Module, flags: u32)
-    ensures named { «module».new ≡ named_under flags «module».old }
-    ensures accepted { (info : ModuleInfo) → IsTrue (is_accepted «module».old info) →
-        IsTrue (is_accepted «module».new info) }
+    ensures { «module».new ≡ named_under flags «module».old }
 {
     name_as_standard(module, flags >= DECIMAL_FLOATS);
 }

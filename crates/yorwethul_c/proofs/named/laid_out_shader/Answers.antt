@@ -1,4 +1,8 @@
-use Rattle.std.proofs.Common.{IfErr, refl, subst}
+use Rattle.std.proofs.Common.{◌∙◌, IfErr, ap, is_none, refl, subst, sym}
+use Rattle.std.specs.Prelude.{IsTrue}
+use Rattle.module_semantics.specs.acceptance.Accepted.{is_accepted}
+use Rattle.module_answers.proofs.StandardNames.{named_is_accepted}
+use Rattle.yorwethul_c.specs.Answers.{asks_decimal_floats}
 use Rattle.module_positions.specs.Faults.{TellsFaultAt}
 use Rattle.naga_wgsl_out.specs.ModuleRefusals.{IsNamesRefusal}
 use Rattle.yorwethul_c.specs.NamedItems.{TellsOfLayouts}
@@ -14,6 +18,15 @@ returns-in-Some c =
     (TellsFaultAt s.holder s.module s.info c.in-Some.fault) status.NotAccepted _ _
     (faulty json s.holder s.module s.info _ _ _ was_read c.in-Some.is c.unaccepted.ensures.fault) refl
     c.not_accepted.ensures
+
+pub layout_table-requires : goal.layout_table-requires
+layout_table-requires c =
+    let s = c.args.shader.now in
+    let is = sym c.unaccepted.ensures.accepted ∙ ap is_none c.in-None.is in
+    record {
+      accepted = subst (λ m. IsTrue (is_accepted m s.info)) (sym c.name_under.ensures)
+          (named_is_accepted (asks_decimal_floats c.args.flags) s.module s.info is);
+    }
 
 pub returns-in-Ok : goal.returns-in-Ok
 returns-in-Ok c =
@@ -31,5 +44,5 @@ returns-in-Err c =
     let asked = to_be_named json c.args.flags s.holder s.module s.info _ c.requires.known was_read c.in-None.is
     c.unaccepted.ensures.accepted in
     unnamed_by (TellsOfLayouts json c.args.flags) json c.args.flags asked named c.in-Err.error _ _ (λ is. is) refl
-    c.name_under.ensures.named
+    c.name_under.ensures
     (subst (λ r. IfErr r (IsNamesRefusal named)) c.in-Err.is c.layout_table.ensures.err) c.unnamed.ensures

@@ -21,7 +21,7 @@ returns-in-Ok c =
     λ json was_read.
     let asked = to_be_named json c.args.flags s.holder s.module s.info _ c.requires.known was_read c.in-None.is
     c.unaccepted.ensures.accepted in
-    named_by json c.args.flags asked c.name_under.new.«module» _ c.name_under.ensures.named c.in-Ok.ensures.text
+    named_by json c.args.flags asked c.name_under.new.«module» _ c.name_under.ensures c.in-Ok.ensures.text
 
 pub returns-in-Err : goal.returns-in-Err
 returns-in-Err c =
@@ -31,5 +31,5 @@ returns-in-Err c =
     let asked = to_be_named json c.args.flags s.holder s.module s.info _ c.requires.known was_read c.in-None.is
     c.unaccepted.ensures.accepted in
     unnamed_by (TellsOfNames json c.args.flags) json c.args.flags asked named c.in-Err.error _ _ (λ is. is) refl
-    c.name_under.ensures.named
+    c.name_under.ensures
     (subst (λ r. IfErr r (IsNamesRefusal named)) c.in-Err.is c.names_text.ensures.err) c.unnamed.ensures
