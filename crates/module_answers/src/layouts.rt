@@ -16,7 +16,6 @@ use std::alloc::Global;
 /// one, let [`name_as_standard`](crate::name_as_standard) see the module first.
 ///
 /// The error is one of those of [`names_of`]: of a module whose items can't all be named, or of memory.
-#[tactic(auto, using(module_semantics::proofs::Layouts::accepted_in_order))]
 pub fn layout_table(alloc: Global, module: &Module, info: &ModuleInfo) -> Result<String, Error>
     requires accepted { IsTrue (is_accepted «module».now info.now) }
     ensures err { IfErr result (IsNamesRefusal «module».now) }
