@@ -18,11 +18,11 @@ use Rattle.module_positions.specs.declared.positions.JsonHolder.{JsonHolder}
 
 -- the directives of its filters of diagnostics, where the text is to have what standard compilers ask
 -- for
-abbrev pub opening : WriterFlags → Module → List ℕ
+unfoldable pub opening : WriterFlags → Module → List ℕ
 opening flags m = if is_portable flags then module_directives m else []
 
 -- each of them has a name for its rule
-abbrev pub OpensWithNames : WriterFlags → Module → Type 0
+unfoldable pub OpensWithNames : WriterFlags → Module → Type 0
 OpensWithNames flags m = IsTrue (is_portable flags) → HaveNames (filters_in_force m)
 
 -- what becomes of a module that has no directives

@@ -15,6 +15,7 @@ use std::alloc::{AllocError, Global};
 
 /// A text of so many bytes that begins with the directives of the module, where the text is to have
 /// what standard compilers ask for.
+#[tactic(auto, unfolding(crate::specs::Opening::opening, crate::specs::Opening::OpensWithNames))]
 pub(crate) fn opened(
     alloc: Global,
     module: &Module,

@@ -1,3 +1,3 @@
 mod Lists
 mod Numerals
-mod Filters
+pub mod Filters

@@ -223,6 +223,7 @@ fn expect_filters(
 }
 
 /// Refuses filters of which one has a parent that does not stand before it.
+#[tactic(auto, using(crate::proofs::Filters::same_parents))]
 fn expect_parents(alloc: Global, filters: &Arena<DiagnosticFilterNode>) -> Result<(), ReadError>
     ensures { Gives unseen
         (cond (follow_parents (map (λ node. node.parent) (map seen_node filters.now)))
