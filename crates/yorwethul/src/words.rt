@@ -42,11 +42,7 @@ fn bytes_of<R: Env + AllocGlobal>(rt: &R, at: usize) -> io::Result<Option<Vec<u8
 }
 
 /// A word as a text.
-fn text_of<R: AllocGlobal, E: Write>(
-    rt: &R,
-    word: Vec<u8>,
-    err: &mut E,
-) -> io::Result<String> {
+fn text_of<R: AllocGlobal, E: Write>(rt: &R, word: Vec<u8>, err: &mut E) -> io::Result<String> {
     match String::from_utf8(word) {
         Ok(text) => Ok(text),
         Err(no_text) => path_of(rt, no_text.into_bytes().as_slice(), err),
@@ -64,6 +60,9 @@ fn path_of<R: AllocGlobal, E: Write>(rt: &R, name: &[u8], err: &mut E) -> io::Re
         return Err(error);
     }
     let path = format!(in alloc; "/proc/self/fd/{file}")?;
-    let _ = writeln!(err, "yorwethul: {shown}, whose name is no text, is read as {path}");
+    let _ = writeln!(
+        err,
+        "yorwethul: {shown}, whose name is no text, is read as {path}"
+    );
     Ok(path)
 }

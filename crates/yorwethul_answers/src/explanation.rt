@@ -21,11 +21,7 @@ use yorwethul_input::Style;
 use yorwethul_progress::Outcome;
 
 /// Tells why a module has no text in this style, if it has none.
-pub fn explained(
-    alloc: Global,
-    style: Style,
-    shader: &mut Shader,
-) -> Result<Answer, AllocError> {
+pub fn explained(alloc: Global, style: Style, shader: &mut Shader) -> Result<Answer, AllocError> {
     match write_in(alloc, style, shader) {
         Ok(written) => of_written(alloc, shader, written),
         Err(NoOutcome::NotAccepted(fault)) => of_unaccepted(alloc, shader, fault),

@@ -1,9 +1,9 @@
 //! Where what is printed goes.
 
 use std::alloc::{AllocError, Global};
-use std::{fs, io};
 use std::path::Path;
 use std::rt::Files;
+use std::{fs, io};
 use yorwethul_input::{Failure, Invocation, Task};
 
 /// Where what is printed about modules goes.
@@ -20,7 +20,7 @@ pub enum Outputs<'a> {
 /// Where the invocation wants what is printed. A folder is made where it is not there.
 pub fn outputs_of<'a, R: Files + AllocGlobal>(
     rt: &R,
-    invocation: &Invocation<'a>,
+    invocation: &'a Invocation<'a>,
 ) -> Result<Outputs<'a>, Failure<'a>> {
     match invocation.output {
         None => Ok(Outputs::Standard),
@@ -51,7 +51,7 @@ fn is_there_as_folder<R: Files>(files: &R, name: &str) -> bool {
 }
 
 /// Whether a file is no module's own, by its name.
-fn check_name<'a>(name: &str, invocation: &Invocation<'a>) -> Result<(), Failure<'a>> {
+fn check_name<'a>(name: &str, invocation: &'a Invocation<'a>) -> Result<(), Failure<'a>> {
     for module in invocation.modules.iter() {
         if from_here(*module) == from_here(name) {
             return Err(Failure::Itself(*module));
@@ -68,7 +68,7 @@ fn from_here(path: &str) -> &str {
 /// Whether each module has an output of its own in the folder, which is no module itself.
 fn check_names<'a>(
     alloc: Global,
-    invocation: &Invocation<'a>,
+    invocation: &'a Invocation<'a>,
     folder: &str,
 ) -> Result<(), Failure<'a>> {
     let mut names: Vec<String> = Vec::new(alloc);
@@ -102,12 +102,7 @@ pub fn output_of(
 }
 
 /// The file in a folder for what is printed about a module.
-fn name_in(
-    alloc: Global,
-    folder: &str,
-    module: &str,
-    task: Task,
-) -> Result<String, AllocError> {
+fn name_in(alloc: Global, folder: &str, module: &str, task: Task) -> Result<String, AllocError> {
     let slash = if folder.ends_with('/') { "" } else { "/" };
     let stem = stem_of(module);
     let ending = ending_of(task);

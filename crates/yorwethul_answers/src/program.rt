@@ -56,7 +56,7 @@ const AT_A_TERMINAL: &str = "\
     yorwethul: reading a module as JSON from the terminal, to its end by Ctrl-D; --help tells more";
 
 /// Whether something is read from the standard input.
-fn reads_input(invocation: &Invocation<'_>) -> bool {
+fn reads_input<'a>(invocation: &'a Invocation<'a>) -> bool {
     invocation.info == Some("-") || invocation.modules.contains(&"-")
 }
 
@@ -131,7 +131,7 @@ impl fmt::Display for Version {
 
 fn serve<'a, R: Files + Input + Clock + AllocGlobal, O: Write, E: Write>(
     rt: &R,
-    invocation: &Invocation<'a>,
+    invocation: &'a Invocation<'a>,
     out: &mut O,
     err: &mut E,
     is_watched: bool,
@@ -145,7 +145,7 @@ fn serve<'a, R: Files + Input + Clock + AllocGlobal, O: Write, E: Write>(
 
 fn serve_modules<'a, R: Files + Input + AllocGlobal, O: Write, E: Write>(
     rt: &R,
-    invocation: &Invocation<'a>,
+    invocation: &'a Invocation<'a>,
     outputs: Outputs<'a>,
     out: &mut O,
     err: &mut E,
@@ -167,7 +167,7 @@ fn serve_modules<'a, R: Files + Input + AllocGlobal, O: Write, E: Write>(
 /// Answers one of the modules. An error ends the run.
 fn serve_module<'a, R: Files + Input + AllocGlobal, O: Write, E: Write>(
     rt: &R,
-    invocation: &Invocation<'a>,
+    invocation: &'a Invocation<'a>,
     outputs: Outputs<'a>,
     source: Source<'a>,
     out: &mut O,
@@ -193,7 +193,7 @@ fn serve_module<'a, R: Files + Input + AllocGlobal, O: Write, E: Write>(
 /// What is answered about one of the modules.
 fn answer_about<'a, R: Files + Input + AllocGlobal>(
     rt: &R,
-    invocation: &Invocation<'a>,
+    invocation: &'a Invocation<'a>,
     source: Source<'a>,
 ) -> Result<Answer, Failure<'a>> {
     let read = given_by(rt, source);
@@ -226,7 +226,7 @@ impl fmt::Display for Headed<'_> {
 /// What is printed about a module: behind its name where what is printed about several goes to one
 /// output and would not say which of them it is about.
 fn headed<'a>(
-    invocation: &Invocation<'a>,
+    invocation: &'a Invocation<'a>,
     outputs: Outputs<'_>,
     module: &'a str,
     text: String,
@@ -238,7 +238,11 @@ fn headed<'a>(
         Task::Layout => ":\n",
         _ => "",
     };
-    let name = if between.is_empty() { "" } else { title(module) };
+    let name = if between.is_empty() {
+        ""
+    } else {
+        title(module)
+    };
     Headed {
         name,
         between,
@@ -290,7 +294,7 @@ fn write_and_flush<O: Write>(text: impl Display + Drop, out: &mut O) -> io::Resu
 /// Answers the lines of the file that is named.
 fn serve_lines<'a, R: Files + Input + Clock + AllocGlobal, O: Write, E: Write>(
     rt: &R,
-    invocation: &Invocation<'a>,
+    invocation: &'a Invocation<'a>,
     outputs: Outputs<'a>,
     out: &mut O,
     err: &mut E,

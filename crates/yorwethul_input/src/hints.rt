@@ -49,7 +49,9 @@ impl fmt::Display for Hint {
             Hint::Beside => {
                 f.write_str("a module with other members beside it stands in a member `module`")
             }
-            Hint::InfoBeside => f.write_str("beside an info the module stands in a member `module`"),
+            Hint::InfoBeside => f.write_str(
+                "beside an info the module stands in a member `module`",
+            ),
             Hint::Alone => f.write_str("with --info this file holds the module alone"),
             Hint::Float => f.write_str(
                 "JSON has no infinity and no NaN, for which serde_json writes null: give the bits, as \
@@ -86,16 +88,10 @@ fn hint_of_text(text: &str) -> Option<Hint> {
 fn hint_of_whole(text: &str, problem: &Problem, wanted: Wanted) -> Option<Hint> {
     match (problem, wanted) {
         (Problem::Mistyped(JsonKind::Object), Wanted::Given)
-            if text.trim_start().starts_with('[') =>
-        {
-            Some(Hint::Pair)
-        }
+            if text.trim_start().starts_with('[') => { Some(Hint::Pair) }
         (Problem::UnknownMember(_), Wanted::Given) => Some(Hint::Beside),
         (Problem::UnknownMember(name), Wanted::Module)
-            if name.as_str() == "module" || name.as_str() == "info" =>
-        {
-            Some(Hint::Alone)
-        }
+            if name.as_str() == "module" || name.as_str() == "info" => { Some(Hint::Alone) }
         _ => None,
     }
 }

@@ -59,7 +59,8 @@ pub struct Invocation<'a> {
 /// version.
 pub fn invocation_of(alloc: Global, words: &[String]) -> Result<Invocation<'_>, Error> {
     let matches = command(alloc)?.try_get_matches_from(words)?;
-    let invocation = invocation_in(alloc, matches)?;
+    let modules = modules_in(alloc, &matches)?;
+    let invocation = invocation_in(&matches, modules);
     match asking_for_one(&invocation) {
         Some(message) => Err(command(alloc)?.error(ErrorKind::ArgumentConflict, message)?),
         None => Ok(invocation),
@@ -79,21 +80,27 @@ fn asking_for_one(invocation: &Invocation<'_>) -> Option<&'static str> {
     }
 }
 
-fn invocation_in<'a>(
-    alloc: Global,
-    matches: ArgMatches<'a>,
-) -> Result<Invocation<'a>, AllocError> {
-    let modules = match matches.get_strs("module") {
-        Some(named) => named.to_vec(alloc)?,
-        None => ["-"].to_vec(alloc)?,
-    };
-    Ok(Invocation {
-        task: task_in(&matches),
-        style: style_in(&matches),
+fn invocation_in<'a>(matches: &ArgMatches<'a>, modules: Vec<&'a str>) -> Invocation<'a> {
+    Invocation {
+        task: task_in(matches),
+        style: style_in(matches),
         modules,
         info: matches.get_str("info"),
         output: named_output(matches.get_str("output")),
-    })
+    }
+}
+
+fn modules_in<'a>(alloc: Global, matches: &ArgMatches<'a>) -> Result<Vec<&'a str>, AllocError> {
+    let mut modules = Vec::new(alloc);
+    match matches.get_strs("module") {
+        Some(named) => {
+            for name in named.iter() {
+                modules.push(*name)?;
+            }
+        }
+        None => modules.push("-")?,
+    }
+    Ok(modules)
 }
 
 fn style_in(matches: &ArgMatches<'_>) -> Style {
@@ -311,7 +318,8 @@ fn number<'a>(alloc: Global, name: &'a str, value: &'a str, help: &'a str) -> Ar
 }
 
 fn module<'a>(alloc: Global) -> Arg<'a> {
-    let help = "A module, also with what is known of it; the standard input where it is - or absent";
+    let help =
+        "A module, also with what is known of it; the standard input where it is - or absent";
     Arg::new(alloc, "module")
         .value_name("MODULE.json")
         .num_args(1..)
