@@ -11,7 +11,6 @@ use Rattle.naga_back.specs.declared.flags.WriterFlags.{WriterFlags}
 use Rattle.naga_refusals.specs.declared.error.Error.{Error}
 use Rattle.naga_refusals.specs.declared.error.Error.TheVariants as error
 use Rattle.module_semantics.specs.acceptance.Accepted.{is_accepted}
-use Rattle.naga_wgsl_out.specs.Checked.{IsCounted}
 use Rattle.naga_wgsl_out.specs.Headline.{FaithfulWriting}
 use Rattle.naga_wgsl_out.specs.Leaving.{Leaves}
 use Rattle.naga_wgsl_out.specs.ModuleRefusals.{NeverBegins, NothingIsRefused}
@@ -21,6 +20,7 @@ use Rattle.naga_wgsl_out.specs.Within.{IsPastBound, unfailed}
 use Rattle.naga_wgsl_out.proofs.Bounded.{appends_unfailed, faithful_unfailed, leaves_unfailed}
 use Rattle.naga_wgsl_out.proofs.Bounded.{matches_unfailed}
 use Rattle.naga_wgsl_out.proofs.ModuleScopes.{each_writable}
+use Rattle.module_answers.specs.Counts.{IsReady}
 use Rattle.module_answers.specs.Opening.{opening}
 use Rattle.module_answers.specs.Within.{IsPastAfter, IsTooLong}
 use Rattle.module_answers.specs.WriteOutcomes.{AnswersWriting, TellsBeside}
@@ -79,7 +79,7 @@ module _ (flags : WriterFlags) (m : Module) (info : ModuleInfo) (bound : ℕ) (c
 -- a sink that began with what stands in front of the text tells that both are too long
 pub is_too_long : (flags : WriterFlags) (bound : ℕ) (given m : Module) (old new : ModuleInfo)
     (answer : Result Unit Error) (told : Option Refusal) (beginning : List ℕ) (failures : ℕ) →
-    IsTrue (is_accepted given old) → IsCounted m old new →
+    IsTrue (is_accepted given old) → IsReady flags answer m old new →
     AnswersWriting flags m new answer told (opening flags given) beginning 0 failures →
     bound < length beginning → IsTooLong flags bound given m old new
 is_too_long flags bound given m old new answer told beginning failures accepted counted written passed = record {

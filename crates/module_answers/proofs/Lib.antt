@@ -1,3 +1,4 @@
 mod Alone
 pub mod Bounded
 mod Wants
+mod Counting

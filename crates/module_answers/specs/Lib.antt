@@ -1,4 +1,5 @@
 pub mod Wants
+pub mod Counts
 pub mod WriteOutcomes
 pub mod Refusals
 pub mod Shaders

@@ -4,6 +4,7 @@
 -- the call and new after it, and bound is how many bytes its text may have.
 use Rattle.std.specs.Prelude.{◌≡◌, ◌<◌, ◌-◌, ◌⊎◌, ℕ, IsTrue, List, Option, Result, length}
 use Rattle.diagnostic_directives.specs.Directives.{LacksName}
+use Rattle.module_answers.specs.Counts.{IsReady}
 use Rattle.module_answers.specs.Opening.{opening}
 use Rattle.module_answers.specs.WriteOutcomes.{AnswersWriting}
 use Rattle.module_answers.specs.declared.within.NoOutcome.{NoOutcome}
@@ -15,7 +16,6 @@ use Rattle.naga_back.specs.declared.flags.WriterFlags.{WriterFlags}
 use Rattle.naga_info.specs.declared.info.ModuleInfo.{ModuleInfo}
 use Rattle.naga_ir.specs.declared.module.Module.{Module}
 use Rattle.naga_refusals.specs.declared.error.Error.{Error}
-use Rattle.naga_wgsl_out.specs.Checked.{IsCounted}
 use Rattle.naga_wgsl_out.specs.Within.{IsPastBound}
 use Rattle.naga_wgsl_out.specs.declared.unwritable.Refusal.{Refusal}
 
@@ -32,8 +32,8 @@ IsPastAfter flags bound front m info =
 pub record IsTooLong (flags : WriterFlags) (bound : ℕ) (given m : Module)
     (old new : ModuleInfo) : Type 0 where
   pub accepted : IsTrue (is_accepted given old)
-  pub counted : IsCounted m old new
   pub answer : Result Unit Error
+  pub counted : IsReady flags answer m old new
   pub told : Option Refusal
   pub beginning : List ℕ
   pub failures : ℕ

@@ -3,12 +3,12 @@
 ghost use Rattle.std.specs.Prelude.{◌≡◌, ◌<◌, ◌≤◌, IfErr, IfNone, IfOk, IfSome, IsTrue, OnOk};
 ghost use Rattle.std.specs.Prelude.{length};
 ghost use Rattle.std.specs.Prelude.{string_bytes};
+ghost use Rattle.module_answers.specs.Counts.{IsReady};
 ghost use Rattle.module_answers.specs.Opening.{OpensWithNames, opening};
 ghost use Rattle.module_answers.specs.Wants.{IsDecimalUnlessWanting};
 ghost use Rattle.module_answers.specs.Within.{IsUnwritten};
 ghost use Rattle.module_answers.specs.WriteOutcomes.{AnswersWriting};
 ghost use Rattle.module_semantics.specs.acceptance.Accepted.{is_accepted};
-ghost use Rattle.naga_wgsl_out.specs.Checked.{IsCounted};
 ghost use Rattle.naga_wgsl_out.specs.Within.{unfailed};
 ghost use Rattle.decimal_floats.specs.Decimals.{IsDecimalModule, keeping_digits};
 
@@ -54,7 +54,7 @@ pub fn write_within(
     bound: usize,
 ) -> Result<WriteOutcome<String>, NoOutcome>
     ensures accepted { IfOk result (λ _. IsTrue (is_accepted «module».now info.old)) }
-    ensures counted { IfOk result (λ _. IsCounted «module».now info.old info.new) }
+    ensures counted { IfOk result (λ w. IsReady flags w.answer «module».now info.old info.new) }
     ensures written { IfOk result (λ w. AnswersWriting flags «module».now info.new
         w.answer w.refusal (opening flags «module».now) (string_bytes w.sink) 0 0) }
     ensures named { OnOk result (OpensWithNames flags «module».now) }
@@ -85,7 +85,7 @@ pub fn write_decimal_within(
     ensures decimal { IfOk result (λ _.
         IsDecimalModule (keeping_digits «module».old) «module».new) }
     ensures complete { IfOk result (λ w. IsDecimalUnlessWanting w.answer «module».new) }
-    ensures counted { IfOk result (λ _. IsCounted «module».new info.old info.new) }
+    ensures counted { IfOk result (λ w. IsReady flags w.answer «module».new info.old info.new) }
     ensures written { IfOk result (λ w. AnswersWriting flags «module».new info.new
         w.answer w.refusal (opening flags «module».old) (string_bytes w.sink) 0 0) }
     ensures named { OnOk result (OpensWithNames flags «module».old) }

@@ -9,11 +9,10 @@ use Rattle.naga_ir.specs.declared.module.Module.{Module}
 use Rattle.naga_info.specs.declared.info.ModuleInfo.{ModuleInfo}
 use Rattle.module_semantics.specs.acceptance.Accepted.{is_accepted}
 use Rattle.naga_back.specs.declared.flags.WriterFlags.{WriterFlags}
-use Rattle.naga_back.specs.Flags.{annotates_types, bits_of}
+use Rattle.naga_back.specs.Flags.{annotates_types, bits_of, is_portable}
 use Rattle.naga_refusals.specs.Errors.{TellsOfModule}
 use Rattle.naga_refusals.specs.declared.error.Error.{Error}
 use Rattle.naga_refusals.specs.declared.error.Error.TheVariants as error
-use Rattle.naga_wgsl_out.specs.Checked.{IsCounted}
 use Rattle.naga_wgsl_out.specs.Headline.{FaithfulWriting}
 use Rattle.naga_wgsl_out.specs.ModuleRefusals.{IsRefusal}
 use Rattle.naga_words.specs.declared.sink.SinkError.TheVariants as sink
@@ -22,12 +21,13 @@ use Rattle.naga_acceptance.specs.FirstFaults.{IsFirstFault}
 use Rattle.naga_acceptance.specs.declared.faults.Unaccepted.{Unaccepted}
 use Rattle.naga_wgsl_out.specs.declared.unwritable.Refusal.{Refusal}
 use Rattle.module_positions.specs.Faults.{TellsFaultAt}
+use Rattle.module_answers.specs.Counts.{RaisedFor}
 use Rattle.module_answers.specs.Opening.{OpensWithNames, TellsRuleAt, opening}
 use Rattle.module_answers.specs.Shaders.{IsInfoOf, TellsUnasked, TellsUntypedAt, holder_of}
 use Rattle.module_answers.specs.declared.shaders.Shader.{Shader}
 use Rattle.module_limits.specs.Nesting.{nested_past}
 use Rattle.naga_json.specs.declared.modules.Given.{Given}
-use Rattle.module_answers.specs.Wants.{IsDecimalUnlessWanting}
+use Rattle.module_answers.specs.Wants.{IsDecimalUnlessWanting, UnlessWanting}
 use Rattle.module_answers.specs.WriteOutcomes.{TellsBeside}
 use Rattle.module_answers.specs.declared.shaders.Unasked.{Unasked}
 use Rattle.module_answers.specs.declared.shaders.Unasked.TheVariants as unasked
@@ -35,7 +35,7 @@ use Rattle.module_positions.specs.declared.positions.JsonHolder.{JsonHolder}
 use Rattle.module_answers.specs.Within.{IsUnwritten}
 use Rattle.module_answers.specs.declared.within.NoOutcome.{NoOutcome}
 use Rattle.module_answers.specs.declared.within.NoOutcome.TheVariants as unwritten
-use Rattle.yorwethul_c.specs.Answers.{IsAccepted, IsGivenIn, IsRefused, IsTooLong}
+use Rattle.yorwethul_c.specs.Answers.{HasCounts, IsAccepted, IsGivenIn, IsRefused, IsTooLong}
 use Rattle.yorwethul_c.specs.Answers.{WasWritten, LacksMemory, Says, SaysOfError, SaysOfUnasked}
 use Rattle.yorwethul_c.specs.Answers.{SaysOfUnwritten, SaysOfWritten, SaysThat, TellsAnyRefusal}
 use Rattle.yorwethul_c.specs.Answers.{TellsOfChecking, TellsOfFault, TellsOfLayouts, WasRead}
@@ -162,8 +162,8 @@ faulty json from m read found fault text was_read is fails line =
 abbrev was_asked : (json : List ℕ) (flags : ℕ) (writer : WriterFlags) (from : JsonHolder) (given m : Module)
     (read info : ModuleInfo) → flags ≤ 7 → bits_of writer ≡ flags % 4 → WasRead json from given read →
     IsAsAsked (asks_decimal_floats flags) given m →
-    IsTrue (is_accepted given read) → IsCounted m read info → WasAsked json flags
-was_asked json flags writer from given m read info known bits was_read asked accepted counted = record {
+    IsTrue (is_accepted given read) → RaisedFor (is_portable writer) m read info → WasAsked json flags
+was_asked json flags writer from given m read info known bits was_read asked accepted raised = record {
   flags_are_known = known;
   writer = writer;
   has_bits = bits;
@@ -175,7 +175,7 @@ was_asked json flags writer from given m read info known bits was_read asked acc
   was_read = was_read;
   info = info;
   accepted = accepted;
-  counted = counted;
+  raised = raised;
 }
 
 -- the writer was not asked for it, or was stopped
@@ -200,7 +200,7 @@ not_written json flags writer from given m read info (unwritten.NotAccepted faul
     })) refl says
 not_written json flags writer from given m read info unwritten.TooLong told text known bits was_read asked is says =
     let asking =
-    was_asked json flags writer from given m read info known bits was_read (asked refl) is.accepted is.counted in
+    was_asked json flags writer from given m read info known bits was_read (asked refl) is.accepted is.counted.raised in
     let long : IsTooLong json flags = record { asked = asking; past = is.past } in
     said (TellsOfWriting json flags) status.TooLong told text long refl says
 not_written json flags writer from given m read info (unwritten.RuleName h) told text known bits was_read asked is
@@ -254,6 +254,15 @@ stopped json flags writer from m info refusal (error.Unsupported kind value) tol
     said_that (TellsOfWriting json flags) (TellsAnyRefusal from m refusal) status.Refused told text
     (λ line. inl (is tt line)) refl says.0
 
+-- an error that tells of the module is no want of memory
+told_so : (e : Error) (P : Type 0) → TellsOfModule e → UnlessWanting (Err e) P → P
+told_so (error.Memory e) P tells holds = absurd tells
+told_so (error.FmtError e) P tells holds = holds
+told_so (error.Custom e) P tells holds = holds
+told_so (error.Unimplemented e) P tells holds = holds
+told_so (error.UnsupportedRelationalFunction e) P tells holds = holds
+told_so (error.Unsupported kind value) P tells holds = holds
+
 pub at_most_seven : (flags : ℕ) → flags < 4 → flags ≤ 7
 at_most_seven flags less = omega arith
 
@@ -274,18 +283,19 @@ module _ (json : List ℕ) (flags : ℕ) (writer : WriterFlags) (from : JsonHold
     (read info : ModuleInfo) (content : List ℕ) (known : flags ≤ 7) (bits : bits_of writer ≡ flags % 4)
     (was_read : WasRead json from given read) (asked : IsAsAsked (asks_decimal_floats flags) given m)
     (accepted : IsTrue (is_accepted given read))
-    (counted : IsCounted m read info) (named : OpensWithNames writer given) where
+    (raised : RaisedFor (is_portable writer) m read info) (named : OpensWithNames writer given) where
   abbrev asking : WasAsked json flags
-  asking = was_asked json flags writer from given m read info known bits was_read asked accepted counted
+  asking = was_asked json flags writer from given m read info known bits was_read asked accepted raised
 
   -- an error that tells of the module is a refusal, which is told beside it
-  refusing : (e : Error) (refusal : Option Refusal) (text : List ℕ) →
+  refusing : (e : Error) (refusal : Option Refusal) (text : List ℕ) → UnlessWanting (Err e) (HasCounts asking) →
       FaithfulWriting writer m info (Err e) (opening writer given) content 0 0 →
       TellsBeside (annotates_types writer) m info (Err e) refusal → TellsOfModule e →
       TellsAnyRefusal from m refusal text → IsRefused json flags text
-  refusing e None text faithful beside tells line = absurd (beside tells)
-  refusing e (Some refusal) text faithful beside tells line = record {
+  refusing e None text counted faithful beside tells line = absurd (beside tells)
+  refusing e (Some refusal) text counted faithful beside tells line = record {
     asked = asking;
+    counted = told_so e (HasCounts asking) tells counted;
     error = e;
     beginning = content;
     faithful = faithful;
@@ -295,15 +305,16 @@ module _ (json : List ℕ) (flags : ℕ) (writer : WriterFlags) (from : JsonHold
   }
 
   pub wrote : (answer : Result Unit Error) (refusal : Option Refusal) (told : Status) (text : List ℕ) →
-      (IsTrue (asks_decimal_floats flags) → IsDecimalUnlessWanting answer m) →
+      UnlessWanting answer (HasCounts asking) → (IsTrue (asks_decimal_floats flags) → IsDecimalUnlessWanting answer m) →
       FaithfulWriting writer m info answer (opening writer given) content 0 0 →
       AppendsItsText m info writer answer (opening writer given) content →
       TellsBeside (annotates_types writer) m info answer refusal → length content ≤ longest_text →
       SaysOfWritten from m answer refusal content told text → TellsOfWriting json flags told text
-  wrote (Ok tt) refusal told text complete faithful appends beside within is =
+  wrote (Ok tt) refusal told text counted complete faithful appends beside within is =
       let done : WasWritten json flags text =
       record {
         asked = asking;
+        counted = counted;
         named = named;
         faithful = subst (λ now. FaithfulWriting writer m info (Ok tt) (opening writer given) now 0 0) (sym is.1)
             faithful;
@@ -312,6 +323,6 @@ module _ (json : List ℕ) (flags : ℕ) (writer : WriterFlags) (from : JsonHold
         is_within = subst (λ t. length t ≤ longest_text) (sym is.1) within;
       } in
       subst (λ s. TellsOfWriting json flags s text) (sym is.0) done
-  wrote (Err e) refusal told text complete faithful appends beside within says =
+  wrote (Err e) refusal told text counted complete faithful appends beside within says =
       stopped json flags writer from m info refusal e told text faithful.refusals
-      (refusing e refusal text faithful beside) says
+      (refusing e refusal text counted faithful beside) says

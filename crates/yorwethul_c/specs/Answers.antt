@@ -16,6 +16,7 @@ use Rattle.naga_acceptance.specs.FirstFaults.{IsFirstFault}
 use Rattle.naga_acceptance.specs.declared.faults.Unaccepted.{Unaccepted}
 use Rattle.module_semantics.specs.acceptance.Accepted.{is_accepted}
 use Rattle.module_positions.specs.Faults.{TellsFaultAt}
+use Rattle.module_answers.specs.Counts.{CountsFor, RaisedFor}
 use Rattle.module_answers.specs.Opening.{OpensWithNames, TellsRuleAt, opening}
 use Rattle.module_answers.specs.Refusals.{TellsRefusalAt}
 use Rattle.module_answers.specs.Shaders.{IsInfoOf, TellsUntypedAt, holder_of}
@@ -34,7 +35,6 @@ use Rattle.naga_form.specs.Declarations.{written_program}
 use Rattle.wgsl_text.specs.Reading.{printed_program}
 use Rattle.naga_refusals.specs.declared.error.Error.{Error}
 use Rattle.naga_refusals.specs.declared.error.Error.TheVariants as error
-use Rattle.naga_wgsl_out.specs.Checked.{IsCounted}
 use Rattle.naga_json.specs.declared.modules.Given.{Given}
 use Rattle.naga_wgsl_out.specs.Headline.{FaithfulWriting}
 use Rattle.naga_wgsl_out.specs.declared.unwritable.Refusal.{Refusal}
@@ -130,7 +130,12 @@ pub record WasAsked (json : List ℕ) (flags : ℕ) : Type 0 where
   pub was_read : WasRead json from given read
   pub info : ModuleInfo
   pub accepted : IsTrue (is_accepted given read)
-  pub counted : IsCounted m read info
+  pub raised : RaisedFor (is_portable writer) m read info
+
+-- All counts are those that were asked for: of uses, and for standard compilers raised where an operand
+-- stands too deep.
+abbrev pub HasCounts : {json : List ℕ} {flags : ℕ} → WasAsked json flags → Type 0
+HasCounts asked = CountsFor (is_portable asked.writer) asked.m asked.read asked.info
 
 -- the directives that stand in front of the text that was asked for
 abbrev pub asked_opening : {json : List ℕ} {flags : ℕ} → WasAsked json flags → List ℕ
@@ -140,6 +145,7 @@ asked_opening asked = opening asked.writer asked.given
 -- of which has a name for its rule. Where decimal floats are asked for, each finite one has a numeral.
 pub record WasWritten (json : List ℕ) (flags : ℕ) (text : List ℕ) : Type 0 where
   pub asked : WasAsked json flags
+  pub counted : HasCounts asked
   pub named : OpensWithNames asked.writer asked.given
   pub faithful :
       FaithfulWriting asked.writer asked.m asked.info (Ok tt) (asked_opening asked) text 0 0
@@ -159,6 +165,7 @@ pub record IsTooLong (json : List ℕ) (flags : ℕ) : Type 0 where
 -- and this line tells it with its position.
 pub record IsRefused (json : List ℕ) (flags : ℕ) (text : List ℕ) : Type 0 where
   pub asked : WasAsked json flags
+  pub counted : HasCounts asked
   pub error : Error
   pub beginning : List ℕ
   pub faithful :

@@ -1,11 +1,12 @@
 use Rattle.std.proofs.Common.{◌≡◌, ◌∙◌, ◌<◌, ◌≤◌, IfErr, IfNone, IfOk, IfSome}
 use Rattle.std.proofs.Common.{ap, is_ok, length, refl, string_bytes, subst, sym}
 use Rattle.naga_acceptance.specs.FirstFaults.{IsFirstFault}
-use Rattle.naga_wgsl_out.specs.Checked.{IsCounted}
 use Rattle.naga_wgsl_out.specs.Within.{unfailed}
+use Rattle.module_answers.specs.Counts.{IsReady}
 use Rattle.module_answers.specs.Opening.{opening}
 use Rattle.module_answers.specs.WriteOutcomes.{AnswersWriting}
 use Rattle.module_answers.proofs.Bounded.{as_kept, is_too_long}
+use Rattle.module_answers.proofs.Wants.{ready_unfailed}
 use Rattle.module_answers.proofs.within.write_within.Goals as goal
 
 pub returns-in-Some-clause-accepted : goal.returns-in-Some-clause-accepted
@@ -13,8 +14,14 @@ returns-in-Some-clause-accepted c = sym c.write.ensures.accepted ∙ ap is_ok c.
 
 pub returns-in-Some-clause-counted : goal.returns-in-Some-clause-counted
 returns-in-Some-clause-counted c =
-    subst (λ r. IfOk r (λ _. IsCounted c.args.«module».now c.args.info.now c.write.new.info)) c.in-Ok.is
-    c.write.ensures.counted
+    let m = c.args.«module».now in
+    let w = c.in-Ok.written in
+    let new = c.write.new.info in
+    let ready : IsReady c.args.flags w.answer m c.args.info.now new =
+    subst (λ r. IfOk r (λ w. IsReady c.args.flags w.answer m c.args.info.now new)) c.in-Ok.is c.write.ensures.counted in
+    subst (λ a. IsReady c.args.flags a m c.args.info.now new)
+    (sym (subst (λ o. IfSome o (λ v. v.answer ≡ unfailed w.answer)) c.in-Some.is c.within_its_limit.ensures.answer))
+    (ready_unfailed c.args.flags w.answer m c.args.info.now new ready)
 
 pub returns-in-Some-clause-written : goal.returns-in-Some-clause-written
 returns-in-Some-clause-written c =
@@ -54,7 +61,7 @@ returns-in-None-clause-unwritten c =
     is_too_long flags c.args.bound c.args.«module».now m c.args.info.now info w.answer w.refusal w.sink.text
     w.sink.failures
     (sym c.write.ensures.accepted ∙ ap is_ok c.in-Ok.is)
-    (subst (λ r. IfOk r (λ _. IsCounted m c.args.info.now info)) c.in-Ok.is c.write.ensures.counted)
+    (subst (λ r. IfOk r (λ w. IsReady flags w.answer m c.args.info.now info)) c.in-Ok.is c.write.ensures.counted)
     (subst (λ s. AnswersWriting flags m info w.answer w.refusal s.text w.sink.text s.failures w.sink.failures)
     c.in_ok-opened.ensures.text written)
     (subst (λ o. IfNone o (c.args.bound < length w.sink.text)) c.in-None.is c.within_its_limit.ensures.too_long)
