@@ -33,6 +33,7 @@ sys.path += [str(CASES / "ir"), str(CASES / "runs")]
 from acceptance import is_accepted, is_read
 from asking import STYLES, answers_to
 from declaration_rows import MOST, check_declaration_rows, many
+from filters import UNNAMED, lacks_name
 from generator import generate, generate_structs
 from numerals import with_decimals
 from refusals import refusal
@@ -88,7 +89,12 @@ def own_text(module, is_plain, explicit):
     line_of(module, explicit, is_plain)
     if not is_read(module):
         return NOT_READ
-    return min(styled_answers(module, is_plain, explicit)[1]) if is_accepted(module) else NOT_ACCEPTED
+    return min(styled_answers(module, is_plain, explicit)[1]) if is_accepted(module) else unaccepted(module, is_plain)
+
+
+def unaccepted(module, is_plain):
+    """What is told of a module that is not accepted, which is asked after directives have their names."""
+    return NOT_ACCEPTED if is_plain or not lacks_name(module) else refusal(UNNAMED)
 
 
 def styled_answers(module, is_plain, explicit):
@@ -106,12 +112,16 @@ def text_in(answer):
 
 def compare(module, number, texts, tally):
     given = [texts.pop(0) for _ in STYLES]
-    for name, is_so in ((NOT_READ, is_read), (NOT_ACCEPTED, is_accepted)):
-        if not is_so(module):
-            for text in given:
-                tally.check(number, module, text, {name})
-            tally.add(name)
-            return
+    if not is_read(module):
+        for text in given:
+            tally.check(number, module, text, {NOT_READ})
+        tally.add(NOT_READ)
+        return
+    if not is_accepted(module):
+        for (is_plain, _), text in zip(STYLES, given):
+            tally.check(number, module, text, {unaccepted(module, is_plain)})
+        tally.add(NOT_ACCEPTED)
+        return
     for (is_plain, explicit), text in zip(STYLES, given):
         in_style = module if is_plain else with_decimals(module)
         is_written, answers = answers_of(in_style, explicit, not is_plain)
