@@ -2,3 +2,4 @@ mod Alone
 pub mod Bounded
 mod Wants
 mod Counting
+mod Openings

@@ -206,7 +206,8 @@ fn expect_filters(
     filters: &Arena<DiagnosticFilterNode>,
     leaf: Option<Handle<DiagnosticFilterNode>>,
 ) -> Result<(), ReadError>
-    ensures { Gives unseen (can_hold (map (λ node. node.parent) filters.now) leaf) result }
+    ensures { Gives unseen
+        (can_hold (map (λ node. node.parent) (map seen_node filters.now)) leaf) result }
 {
     in_member(
         alloc,
@@ -224,7 +225,8 @@ fn expect_filters(
 /// Refuses filters of which one has a parent that does not stand before it.
 fn expect_parents(alloc: Global, filters: &Arena<DiagnosticFilterNode>) -> Result<(), ReadError>
     ensures { Gives unseen
-        (cond (follow_parents (map (λ node. node.parent) filters.now)) (Some tt) None) result }
+        (cond (follow_parents (map (λ node. node.parent) (map seen_node filters.now)))
+        (Some tt) None) result }
 {
     for (handle, node) in filters.iter() {
         if !follows(handle, node.parent) {

@@ -9,6 +9,8 @@ use Rattle.module_answers.specs.Opening.{opening}
 use Rattle.module_answers.specs.WriteOutcomes.{AnswersWriting}
 use Rattle.module_answers.proofs.Bounded.{as_kept, is_too_long}
 use Rattle.module_answers.proofs.Wants.{ready_unfailed, unfailed_unless}
+use Rattle.module_answers.proofs.Wants.{decimal_unfailed}
+use Rattle.module_answers.proofs.Openings.{not_too_long, without_opening}
 use Rattle.module_answers.proofs.within.write_decimal_within.Goals as goal
 
 pub returns-in-Some-clause-accepted : goal.returns-in-Some-clause-accepted
@@ -48,10 +50,10 @@ returns-in-Some-clause-written c =
     let w = c.in-Ok.written in
     let v = c.in-Some.whole in
     let written =
-    subst (λ r. IfOk r (λ w. AnswersWriting flags m info w.answer w.refusal c.in_ok-opened.field-0.text
-    w.sink.text c.in_ok-opened.field-0.failures w.sink.failures)) c.in-Ok.is c.write_decimal.ensures.written in
+    subst (λ r. IfOk r (λ w. AnswersWriting flags m info w.answer w.refusal c.in_ok-opening.field-0.text
+    w.sink.text c.in_ok-opening.field-0.failures w.sink.failures)) c.in-Ok.is c.write_decimal.ensures.written in
     let begun = subst (λ s. AnswersWriting flags m info w.answer w.refusal s.text w.sink.text s.failures
-    w.sink.failures) c.in_ok-opened.ensures.text written in
+    w.sink.failures) c.in_ok-opening.ensures.text written in
     as_kept flags m info w.answer v.answer w.refusal v.refusal (opening flags given) w.sink.text
     (string_bytes v.sink) w.sink.failures
     (subst (λ o. IfSome o (λ v. v.answer ≡ unfailed w.answer)) c.in-Some.is c.within_its_limit.ensures.answer)
@@ -72,14 +74,14 @@ returns-in-None-clause-unwritten c =
     let info = c.write_decimal.new.info in
     let w = c.in-Ok.written in
     let written =
-    subst (λ r. IfOk r (λ w. AnswersWriting flags m info w.answer w.refusal c.in_ok-opened.field-0.text
-    w.sink.text c.in_ok-opened.field-0.failures w.sink.failures)) c.in-Ok.is c.write_decimal.ensures.written in
+    subst (λ r. IfOk r (λ w. AnswersWriting flags m info w.answer w.refusal c.in_ok-opening.field-0.text
+    w.sink.text c.in_ok-opening.field-0.failures w.sink.failures)) c.in-Ok.is c.write_decimal.ensures.written in
     is_too_long flags c.args.bound c.args.«module».now m c.args.info.now info w.answer w.refusal w.sink.text
     w.sink.failures
     (sym c.write_decimal.ensures.accepted ∙ ap is_ok c.in-Ok.is)
     (subst (λ r. IfOk r (λ w. IsReady flags w.answer m c.args.info.now info)) c.in-Ok.is c.write_decimal.ensures.counted)
     (subst (λ s. AnswersWriting flags m info w.answer w.refusal s.text w.sink.text s.failures w.sink.failures)
-    c.in_ok-opened.ensures.text written)
+    c.in_ok-opening.ensures.text written)
     (subst (λ o. IfNone o (c.args.bound < length w.sink.text)) c.in-None.is c.within_its_limit.ensures.too_long)
 
 pub returns-in-None-clause-too_long : goal.returns-in-None-clause-too_long
@@ -96,3 +98,12 @@ returns-in-Err-clause-unwritten c =
       untouched.0,
       untouched.1,
     )
+
+pub returns-in_err-opening-clause-unwritten : goal.returns-in_err-opening-clause-unwritten
+returns-in_err-opening-clause-unwritten c =
+    without_opening c.args.flags c.args.bound c.args.«module».now c.args.info.now c.in_err-opening.field-0
+    c.in_err-opening.ensures.none
+
+pub returns-in_err-opening-clause-too_long : goal.returns-in_err-opening-clause-too_long
+returns-in_err-opening-clause-too_long c =
+    not_too_long c.args.flags c.args.«module».now c.in_err-opening.field-0 c.in_err-opening.ensures.none

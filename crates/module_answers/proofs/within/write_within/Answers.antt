@@ -7,6 +7,7 @@ use Rattle.module_answers.specs.Opening.{opening}
 use Rattle.module_answers.specs.WriteOutcomes.{AnswersWriting}
 use Rattle.module_answers.proofs.Bounded.{as_kept, is_too_long}
 use Rattle.module_answers.proofs.Wants.{ready_unfailed}
+use Rattle.module_answers.proofs.Openings.{without_opening}
 use Rattle.module_answers.proofs.within.write_within.Goals as goal
 
 pub returns-in-Some-clause-accepted : goal.returns-in-Some-clause-accepted
@@ -32,10 +33,10 @@ returns-in-Some-clause-written c =
     let w = c.in-Ok.written in
     let v = c.in-Some.whole in
     let written =
-    subst (λ r. IfOk r (λ w. AnswersWriting flags m info w.answer w.refusal c.in_ok-opened.field-0.text
-    w.sink.text c.in_ok-opened.field-0.failures w.sink.failures)) c.in-Ok.is c.write.ensures.written in
+    subst (λ r. IfOk r (λ w. AnswersWriting flags m info w.answer w.refusal c.in_ok-opening.field-0.text
+    w.sink.text c.in_ok-opening.field-0.failures w.sink.failures)) c.in-Ok.is c.write.ensures.written in
     let begun = subst (λ s. AnswersWriting flags m info w.answer w.refusal s.text w.sink.text s.failures
-    w.sink.failures) c.in_ok-opened.ensures.text written in
+    w.sink.failures) c.in_ok-opening.ensures.text written in
     as_kept flags m info w.answer v.answer w.refusal v.refusal (opening flags given) w.sink.text
     (string_bytes v.sink) w.sink.failures
     (subst (λ o. IfSome o (λ v. v.answer ≡ unfailed w.answer)) c.in-Some.is c.within_its_limit.ensures.answer)
@@ -56,14 +57,14 @@ returns-in-None-clause-unwritten c =
     let info = c.write.new.info in
     let w = c.in-Ok.written in
     let written =
-    subst (λ r. IfOk r (λ w. AnswersWriting flags m info w.answer w.refusal c.in_ok-opened.field-0.text
-    w.sink.text c.in_ok-opened.field-0.failures w.sink.failures)) c.in-Ok.is c.write.ensures.written in
+    subst (λ r. IfOk r (λ w. AnswersWriting flags m info w.answer w.refusal c.in_ok-opening.field-0.text
+    w.sink.text c.in_ok-opening.field-0.failures w.sink.failures)) c.in-Ok.is c.write.ensures.written in
     is_too_long flags c.args.bound c.args.«module».now m c.args.info.now info w.answer w.refusal w.sink.text
     w.sink.failures
     (sym c.write.ensures.accepted ∙ ap is_ok c.in-Ok.is)
     (subst (λ r. IfOk r (λ w. IsReady flags w.answer m c.args.info.now info)) c.in-Ok.is c.write.ensures.counted)
     (subst (λ s. AnswersWriting flags m info w.answer w.refusal s.text w.sink.text s.failures w.sink.failures)
-    c.in_ok-opened.ensures.text written)
+    c.in_ok-opening.ensures.text written)
     (subst (λ o. IfNone o (c.args.bound < length w.sink.text)) c.in-None.is c.within_its_limit.ensures.too_long)
 
 pub returns-in-Err-clause-unwritten : goal.returns-in-Err-clause-unwritten
@@ -72,3 +73,8 @@ returns-in-Err-clause-unwritten c = (
   refl,
   subst (λ r. IfErr r (λ _. c.write.new.info ≡ c.args.info.now)) c.in-Err.is c.write.ensures.untouched,
 )
+
+pub returns-in_err-opening-clause-unwritten : goal.returns-in_err-opening-clause-unwritten
+returns-in_err-opening-clause-unwritten c =
+    without_opening c.args.flags c.args.bound c.args.«module».now c.args.info.now c.in_err-opening.field-0
+    c.in_err-opening.ensures.none
