@@ -9,7 +9,6 @@ use Rattle.module_answers.specs.Opening.{opening}
 use Rattle.module_answers.specs.WriteOutcomes.{AnswersWriting}
 use Rattle.module_answers.proofs.Bounded.{as_kept, is_too_long}
 use Rattle.module_answers.proofs.Wants.{ready_unfailed, unfailed_unless}
-use Rattle.module_answers.proofs.Wants.{decimal_unfailed}
 use Rattle.module_answers.proofs.Openings.{not_too_long, without_opening}
 use Rattle.module_answers.proofs.within.write_decimal_within.Goals as goal
 
