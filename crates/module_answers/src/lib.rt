@@ -9,7 +9,7 @@ mod shaders;
 mod within;
 mod writing;
 
-pub use layouts::layout_table;
+pub use layouts::{layout_table, lost_buffers};
 pub use names::{name_as_standard, names_text, names_value};
 pub use refusals::refusal_line;
 pub use shaders::{Shader, Unasked, holder_of, info_within, untyped_line};

@@ -5,8 +5,8 @@ use crate::lines::answer_lines;
 use crate::names::names_line;
 use crate::texts::write_in;
 use module_answers::{
-    NoOutcome, Shader, Unasked, WriteOutcome, holder_of, info_within, layout_table, refusal_line,
-    untyped_line,
+    NoOutcome, Shader, Unasked, WriteOutcome, holder_of, info_within, layout_table, lost_buffers,
+    name_as_standard, refusal_line, untyped_line,
 };
 use module_positions::{JsonHolder, fault_line};
 use naga_acceptance::{Unaccepted, unaccepted};
@@ -200,10 +200,32 @@ fn print_text<O: Write, E: Write>(
     err: &mut E,
 ) -> u8 {
     match write_in(alloc, style, shader) {
-        Ok(written) => print_written(alloc, written, shader, out, err),
+        Ok(written) => {
+            if written.answer.is_ok() {
+                if let Err(error) = tell_lost(alloc, style, shader, err) {
+                    return tell_error(error, err);
+                }
+            }
+            print_written(alloc, written, shader, out, err)
+        }
         Err(NoOutcome::NotAccepted(fault)) => refuse_unaccepted(alloc, shader, fault, err),
         Err(NoOutcome::TooLong) => refuse(NoOutcome::TooLong, err),
     }
+}
+
+/// Tells which buffers the text lays out otherwise than the module does.
+fn tell_lost<E: Write>(
+    alloc: Global,
+    style: Style,
+    shader: &mut Shader,
+    err: &mut E,
+) -> Result<(), Error> {
+    name_as_standard(&mut shader.module, !style.plain);
+    let buffers = lost_buffers(alloc, &shader.module, &shader.info)?;
+    for buffer in &buffers {
+        let _ = writeln!(err, "layout not kept: {}", buffer.as_str());
+    }
+    Ok(())
 }
 
 fn check<O: Write, E: Write>(alloc: Global, shader: &Shader, out: &mut O, err: &mut E) -> u8 {
