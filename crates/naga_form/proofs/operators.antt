@@ -32,5 +32,6 @@ pub mod SoundGroups
 pub mod SoundOperators
 pub mod SpelledSignatures
 pub mod SpelledWords
+pub mod ToldScalars
 pub mod TreeWords
 pub mod TypedWords
