@@ -38,7 +38,8 @@ use Rattle.naga_tables.proofs.WrittenConstants.{global_same, globals_in_order}
 use Rattle.naga_tables.specs.Marks.{GlobalsStandInOrder}
 use Rattle.naga_spelling.specs.Contexts.{Names as TypeNames}
 use Rattle.naga_words.specs.Output.{joined_texts}
-use Rattle.naga_wgsl_shared.specs.Constants.{called_global_text, constant_text, global_at}
+use Rattle.naga_wgsl_shared.specs.Constants.{called_global_text, constant_at, constant_text}
+use Rattle.naga_wgsl_shared.specs.Constants.{global_at}
 use Rattle.naga_wgsl_shared.specs.Constants.{global_text}
 use Rattle.naga_wgsl_shared.specs.Constants.{made_global_text, next_part_text, parts_at, parts_left}
 use Rattle.naga_wgsl_shared.specs.Constants.{parts_text}
@@ -300,6 +301,18 @@ module _ (m : Module) (c : ℕ) (k : ir_constant.Constant) (there : slice_get m.
     unfolding name_of_constant
     named_constant is =
         sym (of_constant true is ∙ name_text (constant_name (module_names m) c))
+
+    pub unnamed_form : is_some k.name ≡ false → global_at m k.init ≡ constant_at m c
+    unnamed_form is =
+        sym
+        (ap (λ o. option_map_or (λ item. by_name item (is_some item.name)) o no_constant_form) there
+        ∙ ap (by_name k) is)
+
+    pub named_form : is_some k.name ≡ true → Name (constant_name (module_names m) c) ≡ constant_at m c
+    named_form is =
+        sym
+        (ap (λ o. option_map_or (λ item. by_name item (is_some item.name)) o no_constant_form) there
+        ∙ ap (by_name k) is)
 
     pub unnamed_constant : is_some k.name ≡ false → global_text m k.init ≡ constant_text m c
     unfolding global_text

@@ -26,9 +26,12 @@ use Rattle.wgsl_text.specs.Reading.{printed_expression}
 use Rattle.wgsl_text.specs.Text.{text}
 use Rattle.wgsl_text.specs.Types.{Named, TypeSpecifier}
 
--- a constant
+-- a constant: its form, and its text
+abbrev pub constant_at : Module → (constant : ℕ) → Expression
+constant_at m c = written_constant_form m (type_names m) c
+
 unfoldable pub constant_text : Module → (constant : ℕ) → List ℕ
-constant_text m c = printed_expression (written_constant_form m (type_names m) c)
+constant_text m c = printed_expression (constant_at m c)
 
 -- the form of one of the module's own expressions, and its text
 abbrev pub global_at : Module → (handle : ℕ) → Expression
@@ -65,6 +68,11 @@ called_global_text m word h =
     printed_expression (Call (Named word) (arguments_of (map (global_at m) (parts_at m h))))
 
 -- ---- operators
+-- one before its operand: what is written so stands in parentheses where a part is taken of it
+abbrev pub is_signed : Expression → Bool
+is_signed (Unary op e) = true
+is_signed _ = false
+
 -- an operator between its operands, with the blanks around it
 abbrev pub spaced_text : BinaryOperator → List ℕ
 spaced_text op = codes " " ++ operator_text op ++ codes " "

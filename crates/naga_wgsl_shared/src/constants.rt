@@ -8,8 +8,9 @@ ghost use Rattle.naga_info.specs.declared.info.TypeResolution.TheVariants as res
 ghost use Rattle.naga_ir.specs.declared.expression.Expression.TheVariants.{As};
 ghost use Rattle.naga_words.specs.Output.{Writes};
 ghost use Rattle.naga_wgsl_shared.specs.Constants.{bits_text, called_global_text, cast_word_text};
-ghost use Rattle.naga_wgsl_shared.specs.Constants.{constant_text, converted_global_text};
-ghost use Rattle.naga_wgsl_shared.specs.Constants.{converted_word, global_text, infix_global_text};
+ghost use Rattle.naga_wgsl_shared.specs.Constants.{constant_at, constant_text};
+ghost use Rattle.naga_wgsl_shared.specs.Constants.{converted_global_text, converted_word, global_at};
+ghost use Rattle.naga_wgsl_shared.specs.Constants.{global_text, infix_global_text, is_signed};
 ghost use Rattle.naga_wgsl_shared.specs.Constants.{made_global_text, next_part_text, parts_text};
 ghost use Rattle.naga_wgsl_shared.specs.Constants.{prefix_global_text};
 ghost use Rattle.naga_wgsl_shared.specs.ModuleText.{CanWriteIn};
@@ -101,6 +102,34 @@ impl ModuleText<'_> {
         }
     }
 
+    /// Whether a constant is written as a sign before an operand: by its initialiser, if it has no
+    /// name.
+    pub fn is_signed_constant(&self, constant: Handle<Constant>) -> bool
+        requires can { CanWriteIn self.now }
+        requires has_form { IsTrue (constant_has_form self.now.shader.now constant) }
+        ensures { result ≡ is_signed (constant_at self.now.shader.now constant) }
+    {
+        let item = &self.shader.constants[constant];
+        if item.name.is_some() {
+            false
+        } else {
+            self.is_signed_global(item.init)
+        }
+    }
+
+    /// The same of one of the module's own expressions.
+    fn is_signed_global(&self, handle: Handle<Expression>) -> bool
+        requires can { CanWriteIn self.now }
+        requires has_form { IsTrue (global_has_form self.now.shader.now handle) }
+        ensures { result ≡ is_signed (global_at self.now.shader.now handle) }
+    {
+        let written = self.tables.representative(handle);
+        match &self.shader.global_expressions[written] {
+            Expression::Unary { .. } => true,
+            _ => false,
+        }
+    }
+
     /// A value of a type, made of the parts of the expression with this handle.
     #[cycle(global)]
     #[tactic(auto, using(naga_words::proofs::Writing::writes_then, crate::proofs::ConstantRows::made_global_row))]
@@ -163,9 +192,10 @@ impl ModuleText<'_> {
         out.put(")");
     }
 
-    /// A sign between its operands.
+    /// A sign between its operands. After a want these are not looked at: a text may be exponential in
+    /// the module's size.
     #[cycle(global)]
-    #[tactic(auto, using(naga_words::proofs::Writing::writes_then, crate::proofs::OperatorRows::infix_row))]
+    #[tactic(auto, using(naga_words::proofs::Writing::writes_then, naga_words::proofs::Writing::writes_no_more, crate::proofs::OperatorRows::infix_row))]
     fn write_infix_global<W: TextSink>(
         &self,
         alloc: Global,
@@ -180,6 +210,9 @@ impl ModuleText<'_> {
         ensures { Writes W.text W.failures out.old out.new
             (infix_global_text self.now.shader.now op left right) }
     {
+        if out.is_wanting() {
+            return;
+        }
         out.put("(");
         self.write_global(alloc, left, out);
         out.put(spaced_operator_str(op));
