@@ -3,7 +3,7 @@ use Rattle.std.proofs.Common.{ap, is_ok, length, string_bytes, subst, sym}
 use Rattle.naga_acceptance.specs.FirstFaults.{IsFirstFault}
 use Rattle.naga_wgsl_out.specs.Checked.{IsCounted}
 use Rattle.naga_wgsl_out.specs.Within.{unfailed}
-use Rattle.decimal_floats.specs.Decimals.{IsDecimalModule, keeping_digits}
+use Rattle.decimal_floats.specs.Decimals.{IsDecimalModule, asking_standard}
 use Rattle.module_answers.specs.Wants.{IsDecimalUnlessWanting}
 use Rattle.module_answers.specs.WriteOutcomes.{AnswersWriting}
 use Rattle.module_answers.proofs.Bounded.{as_kept, is_too_long}
@@ -15,7 +15,7 @@ returns-in-Some-clause-accepted c = sym c.write_decimal.ensures.accepted ∙ ap 
 
 pub returns-in-Some-clause-decimal : goal.returns-in-Some-clause-decimal
 returns-in-Some-clause-decimal c =
-    subst (λ r. IfOk r (λ _. IsDecimalModule (keeping_digits c.args.«module».now) c.write_decimal.new.«module»)) c.in-Ok.is
+    subst (λ r. IfOk r (λ _. IsDecimalModule (asking_standard c.args.«module».now) c.write_decimal.new.«module»)) c.in-Ok.is
     c.write_decimal.ensures.decimal
 
 pub returns-in-Some-clause-complete : goal.returns-in-Some-clause-complete
@@ -74,7 +74,7 @@ returns-in-None-clause-unwritten c =
 
 pub returns-in-None-clause-too_long : goal.returns-in-None-clause-too_long
 returns-in-None-clause-too_long c =
-    λ _. subst (λ r. IfOk r (λ _. IsDecimalModule (keeping_digits c.args.«module».now) c.write_decimal.new.«module»)) c.in-Ok.is
+    λ _. subst (λ r. IfOk r (λ _. IsDecimalModule (asking_standard c.args.«module».now) c.write_decimal.new.«module»)) c.in-Ok.is
     c.write_decimal.ensures.decimal
 
 pub returns-in-Err-clause-unwritten : goal.returns-in-Err-clause-unwritten

@@ -1,7 +1,7 @@
 use Rattle.std.proofs.Common.{ap, sym, subst, ◌∙◌, Some}
 use Rattle.std.specs.Prelude.{IsTrue}
 use Rattle.module_semantics.specs.ExpressionForms.{expression_has_own_form}
-use Rattle.naga_wgsl_fns.proofs.ExpressionRows.{expression_formed}
+use Rattle.naga_wgsl_fns.proofs.Preconditions.{expression_formed}
 use Rattle.naga_wgsl_fns.proofs.PartRows.{is_prefix, no_prefix, signed_named, signed_unnamed}
 use Rattle.naga_wgsl_fns.proofs.functions.FunctionText.is_signed.Goals as goal
 
