@@ -112,10 +112,11 @@ three, true or false, and the next two, numbers, hold in place of the options of
 answered before the next line is read, by one line, an object with the same id and with one of the
 members text, refused, not_accepted and error.
 
-Literals of floats are written by the digits that Rust's formatting gives, names may end in digits,
-as pass2, and the text has what standard compilers ask for, as enable subgroups. With --plain none
-of this is so, as by the library without flags: a literal of a float that the module holds as its
-bits is then refused, and pass2 is written pass2_.
+Literals of floats are written by the digits that Rust's formatting gives, operators in constants
+are written too, names may end in digits, as pass2, and the text has what standard compilers ask
+for, as enable subgroups. With --plain none of this is so, as by the library without flags: a
+literal of a float that the module holds as its bits and an operator in a constant are then refused,
+and pass2 is written pass2_.
 
 With --layout each struct that the text declares has a line, and so has each of its members, with
 its offset and what WGSL gives to its type, in bytes, or why the member can't stay where it is.
