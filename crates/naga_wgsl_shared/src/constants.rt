@@ -110,10 +110,9 @@ impl ModuleText<'_> {
         ensures { result ≡ is_signed (constant_at self.now.shader.now constant) }
     {
         let item = &self.shader.constants[constant];
-        if item.name.is_some() {
-            false
-        } else {
-            self.is_signed_global(item.init)
+        match &item.name {
+            Some(_) => false,
+            None => self.is_signed_global(item.init),
         }
     }
 
