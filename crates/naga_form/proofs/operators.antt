@@ -10,6 +10,7 @@ pub mod BuiltTrees
 pub mod CalledWords
 pub mod ComputedTrees
 pub mod ConsistentModules
+mod ConstantExamples
 pub mod ConstantForms
 pub mod ConstantTrees
 pub mod Images
