@@ -259,7 +259,7 @@ class TextConstants:
                 raise NoValue
             return value
         word, *operands = parts
-        is_operator = kind == "call" and not asks(word)
+        is_operator = kind == "apply" or kind == "call" and not asks(word)
         if not is_operator or word in self.program.names and word not in self.program.struct_names:
             raise NoValue
         return term(word, *map(self.value, operands))
