@@ -407,45 +407,45 @@ module _ (outer : ModuleNames) (m : Module) (info : ModuleInfo) (t : TypeNames)
       a = told_context m
 
       -- what is asked of an expression that is written out as a constant is
-      out_is : (e : ir.Expression) → slice_get m.global_expressions h ≡ Some e →
+      out_reads : (e : ir.Expression) → slice_get m.global_expressions h ≡ Some e →
           OutOf outer m (constant_over m tree_of) (global_types_known info) (told_type m) t spells
           tree_of part (constant_form_by m part) e →
           IsReadAs outer (tree_over inside tree_of h e)
           (constant_form_over a t (constant_form_by m part) part e)
-      out_is e at out =
+      out_reads e at out =
           over_read outer m (constant_over m tree_of) (global_types_known info) (told_type m) t spells
           tree_of part (constant_form_by m part) h (known e at) e out
 
       -- so is an operator over what is
-      operator_is : (e : ir.Expression) → slice_get m.global_expressions h ≡ Some e →
+      operator_reads : (e : ir.Expression) → slice_get m.global_expressions h ≡ Some e →
           operator_has_form m e ≡ true →
           AllByRecursion (λ x. IsReadAs outer (tree_of x) (part x)) (expression_operands e) →
           IsReadAs outer (computed_over inside tree_of h e)
           (global_form_over m t (constant_form_by m part) part e)
-      operator_is (expression.Unary op x) at is all =
+      operator_reads (expression.Unary op x) at is all =
           unary_read outer m (constant_over m tree_of) (global_types_known info) (told_type m) t
           spells tree_of part (constant_form_by m part) h (known (expression.Unary op x) at) op x
           all.0
-      operator_is (expression.Binary op left right) at is all =
+      operator_reads (expression.Binary op left right) at is all =
           binary_read outer m (constant_over m tree_of) (global_types_known info) (told_type m) t
           spells tree_of part (constant_form_by m part) h
           (known (expression.Binary op left right) at) op left right all.0 all.1.0
-      operator_is (expression.Select condition accept reject) at is all =
+      operator_reads (expression.Select condition accept reject) at is all =
           called_read outer m (constant_over m tree_of) (global_types_known info) (told_type m) t
           spells tree_of part (constant_form_by m part) h
           (known (expression.Select condition accept reject) at) None Select tt (λ type. refl) refl
           (reject ∷ accept ∷ condition ∷ []) all
-      operator_is (expression.Relational fun x) at is all =
+      operator_reads (expression.Relational fun x) at is all =
           called_read outer m (constant_over m tree_of) (global_types_known info) (told_type m) t
           spells tree_of part (constant_form_by m part) h
           (known (expression.Relational fun x) at) None (Relational fun) tt (λ type. refl) refl
           (x ∷ []) all
-      operator_is (expression.Math fun x y z w) at is all =
+      operator_reads (expression.Math fun x y z w) at is all =
           called_read outer m (constant_over m tree_of) (global_types_known info) (told_type m) t
           spells tree_of part (constant_form_by m part) h
           (known (expression.Math fun x y z w) at) None (Math fun) tt (λ type. refl) refl
           (expression_operands (expression.Math fun x y z w)) all
-      operator_is (expression.As x kind convert) at is all =
+      operator_reads (expression.As x kind convert) at is all =
           let e = expression.As x kind convert in
           let c = told_conversion m x kind convert is in
           let same : type_known inside.context x ≡ type_known a x =
@@ -466,33 +466,33 @@ module _ (outer : ModuleNames) (m : Module) (info : ModuleInfo) (t : TypeNames)
           (cast_spelled m a t spells kind convert (type_known a x))
           (cast_called a kind convert (type_known a x))
           (cast_asks a kind convert (type_known a x)) (x ∷ []) all)
-      operator_is _ at is all = absurd cc
+      operator_reads _ at is all = absurd cc
 
       own_read : ((x : ℕ) → own x ≡ true → IsReadAs outer (tree_of x) (part x)) →
           (e : ir.Expression) → slice_get m.global_expressions h ≡ Some e →
           global_has_form_over m own e ≡ true →
           IsReadAs outer (computed_over inside tree_of h e)
           (global_form_over m t (constant_form_by m part) part e)
-      own_read each (expression.Literal value) at is = out_is (expression.Literal value) at is
+      own_read each (expression.Literal value) at is = out_reads (expression.Literal value) at is
       own_read each (expression.Constant handle) at is =
-          out_is (expression.Constant handle) at (constant_read own tree_of part each handle is)
+          out_reads (expression.Constant handle) at (constant_read own tree_of part each handle is)
       own_read each (expression.Override handle) at is =
-          out_is (expression.Override handle) at (named.overrides handle)
+          out_reads (expression.Override handle) at (named.overrides handle)
       own_read each (expression.ZeroValue ty) at is =
-          out_is (expression.ZeroValue ty) at (declared_of_spellable m (Handle ty) is)
+          out_reads (expression.ZeroValue ty) at (declared_of_spellable m (Handle ty) is)
       own_read each (expression.Compose ty components) at is =
           let both = and_parts (is_spellable m (Handle ty)) (list_all own components.items) is in
-          out_is (expression.Compose ty components) at
+          out_reads (expression.Compose ty components) at
           (declared_of_spellable m (Handle ty) both.0, all_read each components.items both.1)
       own_read each (expression.Splat n value) at is =
-          out_is (expression.Splat n value) at (each value is)
+          out_reads (expression.Splat n value) at (each value is)
       own_read each e at is =
           let asked =
           and_parts m.computes_constants
           (operator_has_form m e && list_all own (expression_operands e)) is in
           let both =
           and_parts (operator_has_form m e) (list_all own (expression_operands e)) asked.1 in
-          operator_is e at both.0 (all_read each (expression_operands e) both.1)
+          operator_reads e at both.0 (all_read each (expression_operands e) both.1)
 
       by : (o : Option ir.Expression) → slice_get m.global_expressions h ≡ o →
           option_map_or (global_has_form_over m own) o false ≡ true →

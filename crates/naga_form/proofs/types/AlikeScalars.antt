@@ -3,7 +3,7 @@
 -- Throughout, types are a module's types, f tells the form of the type at a handle, code is what
 -- tells a type without a form, s and t are scalars, it is a type by itself, r a type of an
 -- expression, h a handle, and o a form that may be missing.
-use Rattle.std.proofs.Common.{◌≡◌, ◌≢◌, ℕ, Bool, true, false, not, List, [], ◌∷◌, ◌++◌, refl, sym, ap}
+use Rattle.std.proofs.Common.{◌≡◌, ℕ, Bool, true, false, not, List, [], ◌∷◌, ◌++◌, refl, sym, ap}
 use Rattle.std.proofs.Common.{◌∙◌, Option, Some, None, arith, get_or, slice_get, if◌then◌else◌}
 use Rattle.std.proofs.Common.{true≢false}
 use Rattle.std.specs.Prelude.{nat_eq, unwrap_or}
@@ -41,7 +41,8 @@ module _ (code : List ℕ) where
   abbrev is_other : Option (List ℕ) → Bool
   is_other o = not (nat_eq (get_or (numbers o) 0 0) 0)
 
-  no_scalar : (s : Scalar) (o : Option (List ℕ)) → is_other o ≡ true → numbers o ≢ scalar_numbers s
+  no_scalar : (s : Scalar) (o : Option (List ℕ)) → is_other o ≡ true →
+      numbers o ≡ scalar_numbers s → ⊥
   no_scalar s o other is =
       true≢false (sym other ∙ ap (λ ns. not (nat_eq (get_or ns 0 0) 0)) is)
 
