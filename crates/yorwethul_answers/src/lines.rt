@@ -1,5 +1,7 @@
-//! Many modules: each line of the input is answered by a line of the output.
+//! Answers as JSON, each an object in one line: of many modules, a line for each line of the input, or of
+//! one module.
 
+use crate::answer::Answer;
 use crate::names::names_beside;
 use crate::texts::write_in;
 use fault_details::explain;
@@ -22,7 +24,7 @@ use std::fmt::Display;
 use std::io;
 use std::io::{BufRead, Write};
 use std::rt::Clock;
-use yorwethul_input::{Failure, Style};
+use yorwethul_input::{Failure, Reason, Style};
 use yorwethul_progress::{Outcome, Progress};
 
 /// Answers each line of the input, of the file of this name, by a line of the output: an answer has
@@ -80,6 +82,25 @@ fn line_answer(alloc: Global, line: &[u8], style: Style) -> Result<(String, Outc
     let outcome = outcome_in(&members);
     let text = Value::Object(members).to_string(alloc)?;
     Ok((text, outcome))
+}
+
+/// The answer to a module that was read from the file of this name, or to one that was not.
+pub fn object_about(
+    alloc: Global,
+    name: &str,
+    read: Result<Given, Failure<'_>>,
+    style: Style,
+) -> Result<Answer, AllocError> {
+    let mut members = Map::new(alloc);
+    match read {
+        Ok(given) => tell_given(alloc, given, style, &mut members)?,
+        Err(failure) => tell(alloc, "error", Reason(&failure), &mut members)?,
+    }
+    tell(alloc, "file", name, &mut members)?;
+    let outcome = outcome_in(&members);
+    let mut line = Value::Object(members).to_string(alloc)?;
+    line.push_str("\n")?;
+    Ok(Answer::Printed(line, outcome))
 }
 
 /// What an answer tells of its module.
