@@ -1,3 +1,5 @@
+mod Examples
 pub mod Lists
 pub mod Bodies
+pub mod Inverses
 pub mod Modules

@@ -190,6 +190,11 @@ pub changed_alike : {A : Type 0} (change : A → A) (n : ℕ) (xs : List A) →
 changed_alike change n [] = refl
 changed_alike change n (x ∷ xs) = ap (λ ys. change x ∷ ys) (changed_alike change (n + 1) xs)
 
+pub numbered_length : {A B : Type 0} (f : ℕ × A → B) (n : ℕ) (xs : List A) →
+    length (map f (enumerate_from n xs)) ≡ length xs
+numbered_length f n [] = refl
+numbered_length f n (x ∷ xs) = ap suc (numbered_length f (n + 1) xs)
+
 -- ---- items that are moved away, from the front on
 module _ {A : Type 0} where
   dropped_get : (xs ys : List A) (i : ℕ) → drop i xs ≡ drop i ys → slice_get xs i ≡ slice_get ys i

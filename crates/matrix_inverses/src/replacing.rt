@@ -122,6 +122,31 @@ fn replace_asked(
     Ok(())
 }
 
+/// The same of square types of which there may be none, with what is known of the new module.
+fn replace_among(
+    alloc: Global,
+    squares: &[Square],
+    module: &mut Module,
+    info: &mut ModuleInfo,
+) -> Result<(), InverseError>
+    ensures replaced { OnOk result
+        (Replaces squares.now «module».old info.old «module».new info.new) }
+    ensures accepted { OnOk result (IsTrue (is_accepted «module».old info.old) →
+        IsTrue (is_accepted «module».new info.new)) }
+{
+    if squares.is_empty() {
+        return Ok(());
+    }
+    replace_asked(alloc, squares, module, info)?;
+    match infer(alloc, module)? {
+        Ok(found) => {
+            *info = found;
+            Ok(())
+        }
+        Err(error) => Err(InverseError::Unaccepted(error)),
+    }
+}
+
 /// Puts calls of functions of the module in the place of the inverses of square matrices of `f32` and
 /// `f16` that its functions and entry points ask for. There is one function for each such type, in
 /// front of the module's own, whose handles move up. An inverse is then the result of its call, at the
@@ -149,15 +174,5 @@ pub fn replace_inverses(
         IsTrue (is_accepted «module».new info.new)) }
 {
     let asked = asked_squares(alloc, module, info)?;
-    if asked.is_empty() {
-        return Ok(());
-    }
-    replace_asked(alloc, asked.as_slice(), module, info)?;
-    match infer(alloc, module)? {
-        Ok(found) => {
-            *info = found;
-            Ok(())
-        }
-        Err(error) => Err(InverseError::Unaccepted(error)),
-    }
+    replace_among(alloc, asked.as_slice(), module, info)
 }
