@@ -1,4 +1,5 @@
 mod Examples
+pub mod Gone
 pub mod Lists
 pub mod Bodies
 pub mod Inverses

@@ -10,6 +10,7 @@
 mod calls;
 mod errors;
 mod inverses;
+mod laws;
 mod replacing;
 mod squares;
 mod statements;
@@ -18,5 +19,6 @@ mod steps;
 mod tests;
 
 pub use errors::InverseError;
+pub use laws::asked_inverses_are_gone;
 pub use replacing::replace_inverses;
 pub use squares::Square;
