@@ -112,28 +112,24 @@ module _ {A B : Type 0} (R : A → B → Type 0) where
 -- ---- items that are changed in place, from the front on
 module _ {A : Type 0} (change : ℕ → A → A) where
   -- the list whose first i items are changed
-  pub changed : (n i : ℕ) → List A → List A
+  abbrev pub changed : (n i : ℕ) → List A → List A
   changed n zero xs = xs
   changed n (suc i) [] = []
   changed n (suc i) (x ∷ xs) = change n x ∷ changed (n + 1) i xs
 
-  unfolding changed
   pub changed_none : (n : ℕ) (xs : List A) → changed n 0 xs ≡ xs
   changed_none n xs = refl
 
-  unfolding changed
   pub changed_length : (n i : ℕ) (xs : List A) → length (changed n i xs) ≡ length xs
   changed_length n zero xs = refl
   changed_length n (suc i) [] = refl
   changed_length n (suc i) (x ∷ xs) = ap suc (changed_length (n + 1) i xs)
 
-  unfolding changed
   pub changed_get : (n i : ℕ) (xs : List A) → slice_get (changed n i xs) i ≡ slice_get xs i
   changed_get n zero xs = refl
   changed_get n (suc i) [] = refl
   changed_get n (suc i) (x ∷ xs) = changed_get (n + 1) i xs
 
-  unfolding changed
   pub changed_set : (n i : ℕ) (xs : List A) (x : A) → slice_get xs i ≡ Some x →
       set (changed n i xs) i (change (n + i) x) ≡ changed n (i + 1) xs
   changed_set n i xs x is = rw add-one (by n i xs is)
@@ -144,13 +140,14 @@ module _ {A : Type 0} (change : ℕ → A → A) where
       by n (suc i) [] is = absurd cc
       by n zero (y ∷ ys) is =
           let same : y ≡ x = cc in
-          λ j. change (omega arith j) (sym same j) ∷ ys
+          let none : n + zero ≡ n = omega arith in
+          λ j. change (none j) (sym same j) ∷ ys
       by n (suc i) (y ∷ ys) is =
+          let further : n + suc i ≡ (n + 1) + i = omega arith in
           ap (λ zs. change n y ∷ zs)
-          (ap (λ k. set (changed (n + 1) i ys) i (change k x)) (omega arith)
+          (ap (λ k. set (changed (n + 1) i ys) i (change k x)) further
           ∙ by (n + 1) i ys is)
 
-  unfolding changed
   pub changed_all : (n i : ℕ) (xs : List A) → length xs ≤ i →
       changed n i xs ≡ map (λ p. change p.0 p.1) (enumerate_from n xs)
   changed_all n zero [] le = refl
@@ -167,8 +164,9 @@ module _ {A : Type 0} (change : ℕ → A → A) where
           sym (changed_get 0 i old) ∙ (ap (λ ys. slice_get ys i) (sym so_far)
           ∙ (ap (λ k. slice_get now k) (sym same) ∙ is))
       in
+      let first : i ≡ 0 + i = omega arith in
       (λ j. set (so_far j) (same j) (gives j))
-      ∙ (ap (λ k. set (changed 0 i old) i (change k x)) (omega arith) ∙ changed_set 0 i old x here)
+      ∙ (ap (λ k. set (changed 0 i old) i (change k x)) first ∙ changed_set 0 i old x here)
 
   -- the same of an item that is read as it stands there
   pub changed_item : (i : ℕ) (now old : List A) (d y : A) → i < length now →
@@ -261,15 +259,18 @@ module _ {A B : Type 0} (f : A → B) where
 module _ {A : Type 0} where
   taken_first : (n : ℕ) (x : A) (xs : List A) → 0 < n → take n (x ∷ xs) ≡ x ∷ take (n - 1) xs
   taken_first zero x xs lt = absurd (omega (arith, lt))
-  taken_first (suc n) x xs lt = ap (λ k. x ∷ take k xs) (omega arith)
+  taken_first (suc n) x xs lt =
+      let less : n ≡ suc n - 1 = omega arith in
+      ap (λ k. x ∷ take k xs) less
 
   -- the part from an index on, where there is one item more
   pub part_next : (xs : List A) (at end : ℕ) (x : A) → at < end → slice_get xs at ≡ Some x →
       slice_range xs at end ≡ x ∷ slice_range xs (at + 1) end
   part_next xs at end x lt is =
+      let less : end - at - 1 ≡ end - (at + 1) = omega arith in
       ap (take (end - at)) (one_less_dropped xs at x is)
       ∙ (taken_first (end - at) x (drop (at + 1) xs) (omega (arith, lt))
-      ∙ ap (λ k. x ∷ take k (drop (at + 1) xs)) (omega arith))
+      ∙ ap (λ k. x ∷ take k (drop (at + 1) xs)) less)
 
   pub part_end : (xs : List A) (at end : ℕ) → min end (length xs) ≤ at → slice_range xs at end ≡ []
   part_end xs at end le = by (end - at) refl

@@ -1,6 +1,6 @@
 //! Calls in the place of inverses.
 
-ghost use Rattle.std.specs.Prelude.{◌≡◌, List, Option, length, map};
+ghost use Rattle.std.specs.Prelude.{◌≡◌, length, map, position};
 ghost use Rattle.matrix_inverses.specs.Calls.{call_for, called, inverse_for, shifted};
 ghost use Rattle.matrix_inverses.specs.Replaced.{expression_with_call};
 ghost use Rattle.matrix_inverses.specs.Squares.{is_matrix_of, known_types};
