@@ -129,6 +129,7 @@ module _ (asked : List Square) (types : List Type_) (known : List TypeResolution
 pub function_gone : (asked : List Square) (types : List Type_) (info : List ExpressionInfo)
     (f : Function) (number : ℕ) (q : Square) → slice_get asked number ≡ Some q →
     function_asks types q info (function_with_calls asked types info f) ≡ false
+unfolding expression_with_call function_with_calls
 function_gone asked types info f number q is =
     none_of (is_inverse types (known_types info) q) (expression_with_call asked types info)
     f.expressions (expression_gone asked types (known_types info) number q is)

@@ -2,5 +2,5 @@ mod Examples
 pub mod Gone
 pub mod Lists
 pub mod Bodies
-pub mod Inverses
+pub mod InverseFunctions
 pub mod Modules

@@ -161,8 +161,8 @@ module _ {A : Type 0} (change : ℕ → A → A) where
       y ≡ change i x → now ≡ changed 0 i old → set now at y ≡ changed 0 (i + 1) old
   changed_next i at now old x y same is gives so_far =
       let here : slice_get old i ≡ Some x =
-          sym (changed_get 0 i old) ∙ (ap (λ ys. slice_get ys i) (sym so_far)
-          ∙ (ap (λ k. slice_get now k) (sym same) ∙ is))
+      sym (changed_get 0 i old) ∙ (ap (λ ys. slice_get ys i) (sym so_far)
+      ∙ (ap (λ k. slice_get now k) (sym same) ∙ is))
       in
       let first : i ≡ 0 + i = omega arith in
       (λ j. set (so_far j) (same j) (gives j))
@@ -226,7 +226,7 @@ module _ {A : Type 0} where
       all ≡ before ++ take i old → after ≡ before ++ take (i + 1) old
   moved_next i at now old all after before x same is left more so_far =
       let here : slice_get old i ≡ Some x =
-          sym (dropped_get now old i left) ∙ (ap (slice_get now) (sym same) ∙ is)
+      sym (dropped_get now old i left) ∙ (ap (slice_get now) (sym same) ∙ is)
       in
       more ∙ (ap (λ ys. ys ++ x ∷ []) so_far
       ∙ (joined_after before (take i old) (x ∷ [])

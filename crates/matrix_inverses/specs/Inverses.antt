@@ -4,7 +4,7 @@
 -- are the handles of the types that a function of q names.
 use Rattle.std.specs.Prelude.{◌≡◌, ℕ, ◌-◌, ◌==◌, Bool, false, List, [], ◌∷◌, ◌++◌, length, codes}
 use Rattle.std.specs.Prelude.{IsSomeAnd, Option, Some, None, String, string_bytes, if◌then◌else◌}
-use Rattle.std.specs.Prelude.{Vec}
+use Rattle.std.specs.Prelude.{Vec, pos}
 use Rattle.std.specs.List.{AllZip, position_or_len}
 use Rattle.std.specs.declared.alloc.Global.{Global}
 use Rattle.indexmap.specs.IndexMap.{IsEmpty}
@@ -58,7 +58,7 @@ types_in q types =
 
 -- 1, as a text has it
 abbrev pub one_numeral : Decimal
-one_numeral = record { negative = false; digits = 1; exponent = 0 }
+one_numeral = record { negative = false; digits = 1; exponent = pos 0 }
 
 abbrev pub one_of : (width : ℕ) → Literal
 one_of width =
@@ -74,13 +74,13 @@ abbrev pub math_of : MathFunction → (arg : ℕ) → (arg1 : Option ℕ) → Ex
 math_of fun arg arg1 = expression.Math fun arg arg1 None None
 
 -- the expression is that of the step
-abbrev pub IsStep : Square → SquareTypes → Step → Expression → Type 0
+unfoldable pub IsStep : Square → SquareTypes → Step → Expression → Type 0
 IsStep q h step.Argument e = e ≡ expression.FunctionArgument 0
 IsStep q h step.One e = e ≡ expression.Literal (one_of q.width)
 IsStep q h (step.Part whole number) e = e ≡ expression.AccessIndex whole number
 IsStep q h (step.FirstThree column) e =
     e ≡ expression.Swizzle size.Tri column
-        (component.X ∷ component.Y ∷ component.Z ∷ component.W ∷ [])
+    (component.X ∷ component.Y ∷ component.Z ∷ component.W ∷ [])
 IsStep q h (step.Sum left right) e = e ≡ expression.Binary binary.Add left right
 IsStep q h (step.Difference left right) e = e ≡ expression.Binary binary.Subtract left right
 IsStep q h (step.Product left right) e = e ≡ expression.Binary binary.Multiply left right

@@ -19,13 +19,13 @@ use Rattle.matrix_inverses.specs.Inverses.{AreInverses}
 use Rattle.matrix_inverses.specs.Squares.{asked_squares, info_at, known_types}
 
 -- an expression of a function of which this is known
-abbrev pub expression_with_call : List Square → List Type_ → List ExpressionInfo → Expression →
+unfoldable pub expression_with_call : List Square → List Type_ → List ExpressionInfo → Expression →
     Expression
 expression_with_call asked types info e =
     replaced_expression (length asked) (call_for asked types (known_types info) e) e
 
 -- A function keeps all but its expressions and its body.
-abbrev pub function_with_calls : List Square → List Type_ → List ExpressionInfo → Function →
+unfoldable pub function_with_calls : List Square → List Type_ → List ExpressionInfo → Function →
     Function
 function_with_calls asked types info f =
     record f {

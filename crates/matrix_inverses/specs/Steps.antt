@@ -79,7 +79,7 @@ steps_of_four =
     -- 48: the inverse
     Matrix 44 ∷ Transposed 48 ∷ Product 49 25 ∷ []
 
-abbrev pub steps_of : VectorSize → List Step
+unfoldable pub steps_of : VectorSize → List Step
 steps_of size.Bi = steps_of_two
 steps_of size.Tri = steps_of_three
 steps_of size.Quad = steps_of_four

@@ -41,7 +41,10 @@ pub(crate) fn shifted(shift: usize, function: Handle<Function>) -> Handle<Functi
 fn function_for(squares: &[Square], inner: &TypeInner) -> Option<Handle<Function>>
     ensures { result ≡ position (λ q. is_matrix_of q inner.now) squares.now }
 {
-    match squares.iter().position(|square| is_matrix_of(*square, inner)) {
+    match squares
+        .iter()
+        .position(|square| is_matrix_of(*square, inner))
+    {
         Some(index) => Some(ItemIndex::from_index(index)),
         None => None,
     }
@@ -87,6 +90,7 @@ fn called(asked: Asked<'_>, expression: &Expression) -> Option<Handle<Function>>
     }
 }
 
+#[tactic(auto, unfolding(crate::specs::Replaced::expression_with_call))]
 fn replace_expression(asked: Asked<'_>, expression: &mut Expression)
     ensures { expression.new ≡ expression_with_call asked.entry.squares.now asked.entry.types.now
         asked.entry.info.now expression.old }

@@ -12,9 +12,9 @@ use crate::squares::Square;
 use crate::steps::{Step, steps_of};
 use decimal_numerals::Decimal;
 use naga_ir::{
-    Arena, BinaryOperator, Expression, Function, FunctionArgument, FunctionResult, Handle, ItemIndex,
-    Literal, MathFunction, Range, Statement, SwizzleComponent, Type_, UnaryOperator, UniqueArena,
-    VectorSize,
+    Arena, BinaryOperator, Expression, Function, FunctionArgument, FunctionResult, Handle,
+    ItemIndex, Literal, MathFunction, Range, Statement, SwizzleComponent, Type_, UnaryOperator,
+    UniqueArena, VectorSize,
 };
 use std::alloc::{AllocError, Global};
 
@@ -110,13 +110,14 @@ fn math(fun: MathFunction, arg: u8, arg1: Option<Handle<Expression>>) -> Express
 }
 
 /// The expression of a step.
+#[tactic(auto, unfolding(crate::specs::Inverses::IsStep))]
 fn step_expression(
     alloc: Global,
     square: Square,
-    types: SquareTypes,
+    types: &SquareTypes,
     step: Step,
 ) -> Result<Expression, AllocError>
-    ensures { IfOk result (IsStep square types step) }
+    ensures { IfOk result (IsStep square types.now step) }
 {
     match step {
         Step::Argument => Ok(Expression::FunctionArgument(0)),
@@ -167,10 +168,10 @@ fn step_expression(
 fn step_expressions(
     alloc: Global,
     square: Square,
-    types: SquareTypes,
+    types: &SquareTypes,
     steps: &[Step],
 ) -> Result<Arena<Expression>, AllocError>
-    ensures { IfOk result (HasSteps square types steps.now) }
+    ensures { IfOk result (HasSteps square types.now steps.now) }
 {
     let mut expressions = Arena::new(alloc);
     for step in steps {
@@ -201,9 +202,9 @@ fn matrix_argument(
 fn inverse_function(
     alloc: Global,
     square: Square,
-    types: SquareTypes,
+    types: &SquareTypes,
 ) -> Result<Function, AllocError>
-    ensures { IfOk result (IsInverse square types) }
+    ensures { IfOk result (IsInverse square types.now) }
 {
     let steps = steps_of(square.size);
     let mut function = Function::new(alloc);
@@ -226,10 +227,7 @@ fn inverse_function(
 
 /// The handles of the types that a function of the square type names; where one is not there, it is
 /// added.
-fn add_types(
-    square: Square,
-    types: &mut UniqueArena<Type_>,
-) -> Result<SquareTypes, AllocError>
+fn add_types(square: Square, types: &mut UniqueArena<Type_>) -> Result<SquareTypes, AllocError>
     ensures handles { IfOk result (λ handles. handles ≡ types_in square types.old) }
     ensures types { OnOk result (types.new ≡ with_types_of square types.old) }
 {
@@ -250,7 +248,7 @@ pub(crate) fn inverse_functions(
     let mut functions = Arena::new(alloc);
     for square in squares {
         let square_types = add_types(*square, types)?;
-        let function = inverse_function(alloc, *square, square_types)?;
+        let function = inverse_function(alloc, *square, &square_types)?;
         functions.append(function)?;
     }
     Ok(functions)

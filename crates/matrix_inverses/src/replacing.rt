@@ -18,6 +18,7 @@ use naga_ir::{Arena, EntryPoint, Function, ItemIndex, Module, Type_, UniqueArena
 use std::alloc::{AllocError, Global};
 use std::mem;
 
+#[tactic(auto, unfolding(crate::specs::Replaced::function_with_calls))]
 fn replace_in_function(
     alloc: Global,
     asked: Asked<'_>,
@@ -52,7 +53,11 @@ fn replace_in_functions(
             types,
             info: info_at(infos, index),
         };
-        replace_in_function(alloc, asked, functions.get_mut(ItemIndex::from_index(index)))?;
+        replace_in_function(
+            alloc,
+            asked,
+            functions.get_mut(ItemIndex::from_index(index)),
+        )?;
     }
     Ok(())
 }

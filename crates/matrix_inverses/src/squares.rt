@@ -3,7 +3,7 @@
 ghost use Rattle.std.specs.Prelude.{◌≡◌, ◌++◌, IfOk, OnOk, filter};
 ghost use Rattle.matrix_inverses.specs.Squares.{asked_squares, column_of, float_of, function_asks};
 ghost use Rattle.matrix_inverses.specs.Squares.{info_at, inverse_operand, is_inverse, is_matrix_of};
-ghost use Rattle.matrix_inverses.specs.Squares.{is_size, kept_if, known_types, matrix_of};
+ghost use Rattle.matrix_inverses.specs.Squares.{is_float, is_size, kept_if, known_types, matrix_of};
 ghost use Rattle.matrix_inverses.specs.Squares.{module_asks};
 ghost use Rattle.matrix_inverses.specs.Squares.{some_entry_point_asks, some_function_asks};
 ghost use Rattle.matrix_inverses.specs.Squares.{unnamed};
@@ -11,8 +11,8 @@ ghost use Rattle.matrix_inverses.specs.Squares.{unnamed};
 use naga_acceptance::parts::{Known, known_inner};
 use naga_info::{ExpressionInfo, FunctionInfo, ModuleInfo};
 use naga_ir::{
-    Arena, EntryPoint, Expression, Function, Handle, MathFunction, Module, Scalar, ScalarKind, Type_,
-    TypeInner, UniqueArena, VectorSize,
+    Arena, EntryPoint, Expression, Function, Handle, MathFunction, Module, Scalar, ScalarKind,
+    Type_, TypeInner, UniqueArena, VectorSize,
 };
 use std::alloc::{AllocError, Global};
 

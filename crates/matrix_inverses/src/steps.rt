@@ -133,6 +133,7 @@ const FOUR: [Step; 51] = [
 ];
 
 /// The steps by which the inverse of a matrix of so many columns is computed.
+#[tactic(auto, unfolding(crate::specs::Steps::steps_of))]
 pub(crate) fn steps_of(size: VectorSize) -> &'static [Step]
     ensures { result.now ≡ steps_of size }
 {

@@ -4,8 +4,8 @@ use crate::{InverseError, replace_inverses};
 use naga_inference::infer;
 use naga_info::ModuleInfo;
 use naga_ir::{
-    Expression, Function, FunctionArgument, FunctionResult, Handle, ItemIndex, MathFunction, Module,
-    Range, Scalar, ScalarKind, Statement, Type_, TypeInner, VectorSize,
+    Expression, Function, FunctionArgument, FunctionResult, Handle, ItemIndex, MathFunction,
+    Module, Range, Scalar, ScalarKind, Statement, Type_, TypeInner, VectorSize,
 };
 use std::alloc::{AllocError, Global};
 use std::process::Abort;

@@ -1,4 +1,4 @@
-use Rattle.matrix_inverses.proofs.Inverses.{inverses_begin, inverses_end, inverses_next}
+use Rattle.matrix_inverses.proofs.InverseFunctions.{inverses_begin, inverses_end, inverses_next}
 use Rattle.matrix_inverses.proofs.inverses.inverse_functions.Goals as goal
 
 pub loop-square-init : goal.loop-square-init

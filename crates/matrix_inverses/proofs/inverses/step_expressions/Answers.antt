@@ -4,12 +4,12 @@ use Rattle.matrix_inverses.proofs.inverses.step_expressions.Goals as goal
 
 pub loop-step-preserved : goal.loop-step-preserved
 loop-step-preserved c =
-    zipped_next (IsStep c.args.square c.args.types) c.args.steps.now c.loop-step.expressions
+    zipped_next (IsStep c.args.square c.args.types.now) c.args.steps.now c.loop-step.expressions
     c.append.new.self c.loop-step.step-index c.step-item.result c.in_ok-expression.expression
     c.loop-step-test.true c.step-item.is c.in_ok-expression.ensures c.in_ok-append.ensures.items
     c.loop-step.invariant
 
 pub returns : goal.returns
 returns c =
-    zipped_end (IsStep c.args.square c.args.types) c.args.steps.now c.loop-step.expressions
+    zipped_end (IsStep c.args.square c.args.types.now) c.args.steps.now c.loop-step.expressions
     c.loop-step.step-index c.loop-step-test.false c.loop-step.invariant

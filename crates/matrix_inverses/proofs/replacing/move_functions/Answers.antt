@@ -28,6 +28,10 @@ pub returns : goal.returns
 returns c =
     moved_end c.loop-index.index c.loop-index.functions c.args.functions.now c.loop-index.all
     c.args.all.now
-    (omega (arith, c.loop-index-test.false, c.loop-index.invariant.count,
-    c.loop-index.invariant.same_count))
+    (omega (
+      arith,
+      c.loop-index-test.false,
+      c.loop-index.invariant.count,
+      c.loop-index.invariant.same_count,
+    ))
     c.loop-index.invariant.moved

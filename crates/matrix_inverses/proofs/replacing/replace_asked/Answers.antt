@@ -13,8 +13,8 @@ returns c =
     let squares = c.args.squares.now in
     let points = c.replace_in_entry_points.new.entry_points in
     let points_are : points
-        ≡ entry_points_with_calls squares old.types c.args.info.now.entry_points.items
-        old.entry_points.items =
+    ≡ entry_points_with_calls squares old.types c.args.info.now.entry_points.items
+    old.entry_points.items =
     c.in_ok-replace_in_entry_points.ensures
     ∙ ((λ i. entry_points_with_calls squares old.types (c.as_slice-2.ensures.value i)
     (c.as_mut_slice.ensures.value i))) in
