@@ -1,6 +1,0 @@
-mod Examples
-pub mod Gone
-pub mod Lists
-pub mod Bodies
-pub mod InverseFunctions
-pub mod Modules

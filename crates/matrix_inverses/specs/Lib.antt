@@ -1,6 +1,0 @@
-pub mod Squares
-pub mod Steps
-pub mod Inverses
-pub mod Calls
-pub mod Scenes
-pub mod Replaced
