@@ -408,7 +408,7 @@ fn fill_function(alloc: Global, value: &Value, function: &mut Function) -> Resul
         "named_expressions",
         &mut function.named_expressions,
     )?;
-    fill_untold(alloc, value, "body", &mut function.body)
+    fill(alloc, value, "body", &mut function.body)
 }
 
 /// The members of [`Module`].
