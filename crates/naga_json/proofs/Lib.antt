@@ -1,3 +1,6 @@
 mod Lists
 mod Numerals
 mod Blocks
+mod Labels
+mod TypeLists
+mod Modules

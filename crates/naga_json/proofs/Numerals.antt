@@ -1,6 +1,6 @@
 -- The whole numbers that `Value` reads are those that a numeral says.
 use Rattle.std.proofs.Common.{◌≡◌, ◌<◌, ◌^◌, ℕ, zero, suc, List, [], ◌∷◌, Option, Some, None, true, false, length, refl, ap, sym, inl, inr, rules}
-use Rattle.std.specs.Prelude.{◌&&◌, if◌then◌else◌, ℤ, pos, negsuc, nat_lt, ok_or, MatchOption}
+use Rattle.std.specs.Prelude.{◌&&◌, if◌then◌else◌, ℤ, pos, negsuc, nat_lt, ok_or, MatchOption, Result, Ok, Err}
 use Rattle.std.specs.Int.{w64}
 use Rattle.std.specs.Char.{digit_value}
 use Rattle.std.specs.Str.Parse.{AllDigits, digits_value, without_leading_plus, ParsesUnsigned}
@@ -12,6 +12,7 @@ use Rattle.std.proofs.lemmas.Bool.{cases_Bool}
 use mir.Val.{SFits}
 use Rattle.json.specs.Json.{Json}
 use Rattle.naga_ir.specs.declared.types.ArraySize.{ArraySize}
+use Rattle.naga_json.specs.Flags.{ok_of}
 use Rattle.naga_json.specs.Said.{◌>>=◌}
 use Rattle.naga_json.specs.Numbers.{all_digits, is_numeral, whole_of, fits, is_minus_zero}
 use Rattle.naga_json.specs.Numbers.{integer_of, non_zero, unsigned_said, constant_size_said}
@@ -47,6 +48,10 @@ pub whole_read : (o : Option (List ℕ)) (r : Option ℕ)
     → MatchOption o (r ≡ None) (λ s. ParsesUnsigned 64 10 s (ok_or r s)) → r ≡ (o >>= whole_of)
 whole_read None r h = h
 whole_read (Some s) r h = read_whole s r h
+
+pub index_read : {E : Type 0} (s : List ℕ) (r : Result ℕ E) → ParsesUnsigned 64 10 s r → ok_of r ≡ whole_of s
+index_read s (Ok x) h = read_whole s (Some x) h
+index_read s (Err e) h = read_whole s None h
 
 fits-from : (z : ℤ) → SFits w64 z → fits 64 z ≡ true
 fits-from (pos n) h = let within = h.sfits in search rules

@@ -9,3 +9,11 @@ of_mesh_info =
 
 abbrev pub of_ray_query : List String
 of_ray_query = "fun" ∷ []
+
+-- the rules for what a compiler warns of, which of them holds, and comments
+abbrev pub of_module : List String
+of_module = "diagnostic_filters" ∷ "diagnostic_filter_leaf" ∷ "doc_comments" ∷ []
+
+-- which rule for what a compiler warns of holds in a function
+abbrev pub of_function : List String
+of_function = "diagnostic_filter_leaf" ∷ []

@@ -12,3 +12,7 @@ pub mod Expressions
 pub mod Statements
 pub mod Declarations
 pub mod Infos
+pub mod Labels
+pub mod Functions
+pub mod TypeLists
+pub mod Modules

@@ -45,6 +45,7 @@ mod declarations;
 mod error;
 mod expressions;
 mod infos;
+mod labels;
 mod let_be;
 mod modules;
 mod operators;
@@ -52,6 +53,7 @@ mod shape;
 mod sizes;
 mod statements;
 mod text;
+mod type_lists;
 mod types;
 
 pub use error::{JsonKind, Problem, ReadError};
