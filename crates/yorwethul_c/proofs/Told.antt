@@ -34,7 +34,7 @@ use Rattle.module_positions.specs.declared.positions.JsonHolder.{JsonHolder}
 use Rattle.module_answers.specs.Within.{IsUnwritten}
 use Rattle.module_answers.specs.declared.within.NoOutcome.{NoOutcome}
 use Rattle.module_answers.specs.declared.within.NoOutcome.TheVariants as unwritten
-use Rattle.yorwethul_c.specs.Answers.{IsAccepted, IsGivenIn, IsRefused, IsTooLong}
+use Rattle.yorwethul_c.specs.Answers.{IsAccepted, IsGivenIn, IsRefused, IsTooLong, SaysNoModule}
 use Rattle.yorwethul_c.specs.Answers.{WasWritten, LacksMemory, Says, SaysOfError, SaysOfUnasked}
 use Rattle.yorwethul_c.specs.Answers.{SaysOfUnwritten, SaysOfWritten, SaysThat, TellsAnyRefusal}
 use Rattle.yorwethul_c.specs.Answers.{TellsOfChecking, TellsOfFault, TellsOfLayouts, WasRead}
@@ -74,6 +74,10 @@ said_of_none from m wanted told text (inl is) = inl (is, tt)
 said_of_none from m wanted told text (inr less) = inr less
 
 -- ---- what is said of reading is told by each call
+
+pub no_module : (json : List ℕ) (told : Status) (text : List ℕ) → SaysNoModule json →
+    Says status.NoModule told text → TellsOfReading json told text
+no_module json told text none says = said (TellsOfReading json) status.NoModule told text none refl says
 
 pub unread_written : (json : List ℕ) (flags : ℕ) (told : Status) (text : List ℕ) → TellsOfReading json told text →
     TellsOfWriting json flags told text

@@ -3,7 +3,7 @@
 -- Throughout, json is the bytes that a call was given, given is what was read of them, m is a module,
 -- read is what is known of it, info is the same with the uses counted, and from is what the JSON holds
 -- by which positions are told.
-use Rattle.std.specs.Prelude.{◌≡◌, ◌<◌, ◌≤◌, ⊤, ℕ, ◌%◌, ◌++◌, ◌⊎◌, Bool, true, false, IsTrue}
+use Rattle.std.specs.Prelude.{◌≡◌, ◌<◌, ◌≤◌, ℕ, ◌%◌, ◌++◌, ◌⊎◌, Bool, true, false, IsTrue, IsUtf8}
 use Rattle.std.specs.Prelude.{List, [], None, Option, Some, length}
 use Rattle.std.specs.Option.{IfSome}
 use Rattle.std.specs.Prelude.{drop, if◌then◌else◌, nat_le, Result, Ok, Err}
@@ -32,6 +32,7 @@ use Rattle.wgsl_text.specs.Reading.{printed_program}
 use Rattle.naga_refusals.specs.declared.error.Error.{Error}
 use Rattle.naga_refusals.specs.declared.error.Error.TheVariants as error
 use Rattle.naga_wgsl_out.specs.Checked.{IsCounted}
+use Rattle.naga_json.specs.Modules.{seen_given, text_given_said}
 use Rattle.naga_json.specs.declared.modules.Given.{Given}
 use Rattle.naga_wgsl_out.specs.Headline.{FaithfulWriting}
 use Rattle.naga_wgsl_out.specs.Within.{IsPastBound}
@@ -98,12 +99,16 @@ IsAsAsked false given m = m ≡ given
 abbrev pub asks_decimal_floats : (flags : ℕ) → Bool
 asks_decimal_floats flags = nat_le 4 flags
 
--- What `read_given` promises of what it read of these bytes: where they are the module itself, no info
--- came with it. That the module is the one that the bytes tell, its contract doesn't say.
+-- This is what the bytes say, by the definitions of `naga_json`: the module, the info that came with it
+-- if one did, and whether the module is all of the JSON. They are UTF-8.
 abbrev pub IsGivenIn : (json : List ℕ) → Given → Type 0
-IsGivenIn json given = IsTrue given.is_bare → given.info ≡ None
+IsGivenIn json given = IsUtf8 json × (text_given_said json ≡ Some (seen_given given))
 
--- This module was read of the bytes, and is nested no deeper than it may be. What is known of it is
+-- The bytes say no module: they are no UTF-8, or no JSON, or JSON that says none.
+abbrev pub SaysNoModule : (json : List ℕ) → Type 0
+SaysNoModule json = IsUtf8 json → text_given_said json ≡ None
+
+-- This is the module that the bytes say, and is nested no deeper than it may be. What is known of it is
 -- the info that came with it, or if none did, that which the rules of types give.
 pub record WasRead (json : List ℕ) (from : JsonHolder) (m : Module) (read : ModuleInfo)
     : Type 0 where
@@ -195,10 +200,10 @@ pub record IsUntyped (json : List ℕ) (text : List ℕ) : Type 0 where
 abbrev pub TellsOfDepth : (json : List ℕ) → Type 0
 TellsOfDepth json = IsTrue (nest_too_deep json) ⊎ IsTooDeep json
 
--- of what is not asked for more: no module stands in the bytes, they nest too deep, its types are
--- not known, or memory was refused, and then there is no text
+-- of what is not asked for more: the bytes say no module, they nest too deep, its types are not known,
+-- or memory was refused, and then there is no text
 abbrev pub TellsOfReading : (json : List ℕ) → Status → (text : List ℕ) → Type 0
-TellsOfReading json status.NoModule text = ⊤
+TellsOfReading json status.NoModule text = SaysNoModule json
 TellsOfReading json status.TooDeep text = TellsOfDepth json
 TellsOfReading json status.NotAccepted text = IsUntyped json text
 TellsOfReading json status.OutOfMemory text = text ≡ []

@@ -6,7 +6,8 @@ ghost use Rattle.naga_back.specs.Flags.{bits_of};
 ghost use Rattle.module_positions.specs.Faults.{TellsFaultAt};
 ghost use Rattle.module_answers.specs.Shaders.{IsInfoOf, holder_of};
 ghost use Rattle.module_limits.specs.Nesting.{nested_past};
-ghost use Rattle.yorwethul_c.specs.Answers.{IsGivenIn, deepest_nesting};
+ghost use Rattle.naga_json.specs.Said.{IsRefusal};
+ghost use Rattle.yorwethul_c.specs.Answers.{IsGivenIn, SaysNoModule, deepest_nesting};
 ghost use Rattle.yorwethul_c.specs.Answers.{LacksMemory, Says, SaysOfError, SaysOfUnasked};
 ghost use Rattle.yorwethul_c.specs.Answers.{SaysOfUnwritten, SaysOfWritten, SaysThat};
 ghost use Rattle.yorwethul_c.specs.Answers.{TellsAnyRefusal, TellsOfChecking, TellsOfLayouts};
@@ -89,6 +90,7 @@ pub fn laid_out(alloc: Global, json: &[u8]) -> Answer
 
 /// Reads the module, and finds what is known of it where no info came with it; or tells why nothing
 /// more is asked of it.
+#[tactic(auto, using(crate::proofs::Told::no_module))]
 pub(crate) fn shader_in(alloc: Global, json: &[u8]) -> Result<Shader, Answer>
     ensures read { IfOk result
         (λ shader. WasRead json.now shader.holder shader.module shader.info) }
@@ -144,7 +146,9 @@ fn not_asked(alloc: Global, module: &Module, unasked: Unasked, holder: JsonHolde
 }
 
 /// Tells why no module was read.
+#[tactic(auto, using(crate::proofs::Told::no_module))]
 fn unread(alloc: Global, json: &[u8], error: ReadError) -> Answer
+    requires { IsRefusal error → SaysNoModule json.now }
     ensures { TellsOfReading json.now result.status (string_bytes result.text) }
 {
     match error {
