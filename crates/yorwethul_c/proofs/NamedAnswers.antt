@@ -1,6 +1,5 @@
 -- What is told where a module's names or its layouts are asked for, from what the steps say.
 use Rattle.std.proofs.Common.{◌≡◌, ◌≤◌, ◌∙◌, ℕ, [], List, None, Option, ap, inr, is_none, refl, subst, sym}
-use Rattle.std.specs.Prelude.{⊥}
 use Rattle.std.specs.declared.alloc.AllocError.{AllocError}
 use Rattle.naga_acceptance.specs.declared.faults.Unaccepted.{Unaccepted}
 use Rattle.naga_info.specs.declared.info.ModuleInfo.{ModuleInfo}
@@ -44,7 +43,7 @@ unread_laid_out json flags status.UnknownFlag text tells = absurd tells
 unread_laid_out json flags status.TooLong text tells = absurd tells
 
 -- an accepted module, which is named under these flags
-pub to_be_named : (json : List ℕ) (flags : ℕ) (from : JsonHolder) (m : Module) (read : ModuleInfo)
+abbrev pub to_be_named : (json : List ℕ) (flags : ℕ) (from : JsonHolder) (m : Module) (read : ModuleInfo)
     (found : Option Unaccepted) → flags ≤ 7 → WasRead json from m read →
     found ≡ None → is_none found ≡ is_accepted m read → IsToBeNamed json flags
 to_be_named json flags from m read found known was_read is accepts = record {
