@@ -5,8 +5,8 @@ use crate::lines::answer_lines;
 use crate::names::names_line;
 use crate::texts::write_in;
 use module_answers::{
-    NoOutcome, Shader, Unasked, WriteOutcome, holder_of, info_within, layout_table,
-    name_as_standard, refusal_line, untyped_line,
+    NoOutcome, Shader, Unasked, WriteOutcome, holder_of, info_within, layout_table, refusal_line,
+    untyped_line,
 };
 use module_positions::{JsonHolder, fault_line};
 use naga_acceptance::{Unaccepted, unaccepted};
@@ -168,7 +168,7 @@ fn answer<O: Write, E: Write>(
 ) -> u8 {
     match invocation.task {
         Task::Check => check(alloc, shader, out, err),
-        Task::Layout => tell_layouts(alloc, invocation.style, shader, out, err),
+        Task::Layout => tell_layouts(alloc, shader, out, err),
         Task::Names => tell_names(alloc, invocation.style, shader, out, err),
         Task::Explain => explain(explained(alloc, invocation.style, shader), out, err),
         Task::Write | Task::Lines => print_text(alloc, invocation.style, shader, out, err),
@@ -228,23 +228,19 @@ fn explain<O: Write, E: Write>(
     }
 }
 
-/// Prints where the members of the module's structs stand, under the names that its text has.
+/// Prints where the members of the module's structs stand.
 fn tell_layouts<O: Write, E: Write>(
     alloc: Global,
-    style: Style,
-    shader: &mut Shader,
+    shader: &Shader,
     out: &mut O,
     err: &mut E,
 ) -> u8 {
     match unaccepted(&shader.module, &shader.info) {
         Some(fault) => refuse_unaccepted(alloc, shader, fault, err),
-        None => {
-            name_as_standard(&mut shader.module, !style.plain);
-            match layout_table(alloc, &shader.module, &shader.info) {
-                Ok(table) => print(table, out, err),
-                Err(error) => tell_error(error, err),
-            }
-        }
+        None => match layout_table(alloc, &shader.module, &shader.info) {
+            Ok(table) => print(table, out, err),
+            Err(error) => tell_error(error, err),
+        },
     }
 }
 
