@@ -145,8 +145,12 @@ def names(json: str | bytes, flags: Flags | int = Flags.DEFAULT) -> dict[str, li
     return _library().names(json, flags)
 
 
+# With what status a process ends by that of a call, where it is not 2.
+PROCESS_STATUSES = {Status.REFUSED: 1, Status.TOO_DEEP: 1, Status.TOO_LONG: 1, Status.NOT_ACCEPTED: 3}
+
+
 def main(words: list[str] | None = None) -> int:
-    """Prints a text, and gives the status of a process: 0, 1 where there is no text, 2 where something can't be read or written."""
+    """Prints a text, and gives the status of a process: 0; 1 of a module that is refused; 3 of one that is not accepted; else 2."""
     parser = argparse.ArgumentParser(prog="yorwethul", description="Prints the WGSL text of a module that is read from JSON.")
     parser.add_argument("file", help="the file with the JSON; - is the standard input")
     parser.add_argument("--library", help="the libyorwethul.so whose calls are made")
@@ -174,7 +178,7 @@ def main(words: list[str] | None = None) -> int:
         sys.stdout.flush()
     except Error as error:
         print(error, file=sys.stderr)
-        return 1
+        return PROCESS_STATUSES.get(error.status, 2)
     except OSError as error:
         print(f"yorwethul: {error}", file=sys.stderr)
         return 2

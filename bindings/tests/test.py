@@ -255,7 +255,9 @@ def test_python(room):
     named = write(room / "named", "0 1 1")
     must(run(*program, "--names", "--plain", named, env=environment) == "1\n", "--names --plain prints something else")
     must(run(*program, "-", env=environment, input="0 1 a", wanted=0) == "a" * 7, "the standard input is not read")
-    run(*program, write(room / "wrong", "2 1 wrong"), env=environment, wanted=1)
+    for order, status in (("1 1 no", 1), ("2 1 wrong", 3), ("3 1 none", 2), ("5 0 ", 2), ("6 1 deep", 1), ("7 1 long", 1), ("9 1 odd", 2)):
+        run(*program, write(room / "order", order), env=environment, wanted=status)
+    order = write(room / "order", "0 1 abc")
     for words in ([], ["--library", room / "nothing.so", order], [room / "missing"], [room], ["--odd", order], ["--check", "--layout", order], ["--names", "--layout", order]):
         run(*program, *words, env=environment, wanted=2)
     with open("/dev/full", "w") as full:

@@ -1,6 +1,9 @@
 //! Modules of naga are written. The calls are naga's own: the same tests run against naga 30 and
 //! against the stand-in.
 
+use naga::diagnostic_filter::{
+    DiagnosticFilter, DiagnosticFilterNode, FilterableTriggeringRule, Severity,
+};
 use naga::valid::{Capabilities, ModuleInfo, ValidationFlags, Validator};
 use naga::{
     BinaryOperator, Expression, Function, FunctionArgument, FunctionResult, Handle, Literal,
@@ -199,6 +202,28 @@ fn a_refusal_tells_the_construct_and_its_position() {
     assert_eq!(error.span(&module), Some(Span::new(30, 33)));
     fn is_an_error<E: std::error::Error + Send + Sync + 'static>(_: &E) {}
     is_an_error(&error);
+}
+
+#[test]
+fn a_filter_without_a_name_is_refused_at_its_span() {
+    let mut module = double();
+    let filter = DiagnosticFilterNode {
+        inner: DiagnosticFilter {
+            new_severity: Severity::Off,
+            triggering_rule: FilterableTriggeringRule::Unknown("no name".into()),
+        },
+        parent: None,
+    };
+    let filter = module.diagnostic_filters.append(filter, Span::new(3, 9));
+    module.diagnostic_filter_leaf = Some(filter);
+    assert!(write_module(&module, Flags::empty()).is_ok());
+    let error = write_module(&module, Flags::PORTABLE).unwrap_err();
+    assert_eq!(error.span(&module), Some(Span::new(3, 9)));
+    let Error::Yorwethul(error) = error else {
+        panic!("{error}")
+    };
+    assert_eq!(error.construct_kind(), Some(Construct::DiagnosticRule));
+    assert_eq!(error.position(), Some("module.diagnostic_filters[0]"));
 }
 
 #[test]

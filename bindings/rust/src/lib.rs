@@ -32,9 +32,9 @@
 //! # What is proved
 //!
 //! The archive is a library in Rattle, Rust with contracts, in which every function is proved: each
-//! call ends, keeps to its memory, and gives a text that does what the module does, or one of the
-//! errors. That the module is what the JSON says is tested and not proved, and so is this crate,
-//! which is Rust. Its page is `docs/LIBRARY.md` in Yorwethul's repository.
+//! call ends, keeps to its memory, reads the module that the JSON says, and gives a text that does
+//! what the module does, or one of the errors. This crate, which is Rust, is tested and not proved.
+//! Its page is `docs/LIBRARY.md` in Yorwethul's repository.
 //!
 //! # The stack
 //!
@@ -355,7 +355,7 @@ fn refused_at(text: &str) -> (String, String, Option<String>, Option<String>) {
 
 /// What the position of a refusal begins with: the module, or where that is all of the JSON, one of
 /// its lists.
-const BEGINNINGS: [&str; 7] = [
+const BEGINNINGS: [&str; 8] = [
     "module",
     "types[",
     "constants[",
@@ -363,6 +363,7 @@ const BEGINNINGS: [&str; 7] = [
     "global_variables[",
     "functions[",
     "entry_points[",
+    "diagnostic_filters[",
 ];
 
 /// Where the colon in front of a position stands, if there is a position.

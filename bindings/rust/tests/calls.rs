@@ -5,7 +5,7 @@ use yorwethul::{check_json, layout_json, library_version, names_json, stack_size
 use yorwethul::{
     check_json_on_thread, layout_json_on_thread, names_json_on_thread, write_json_on_thread,
 };
-use yorwethul::{Error, Flags};
+use yorwethul::{Construct, Error, Flags, Item};
 
 const DOUBLE: &str = r#"{
     "module": {
@@ -138,6 +138,36 @@ fn a_refused_module_tells_the_construct_and_its_position() {
         format!("refused: float literal: {position}, in \"double\"")
     );
     assert_eq!(check_json(&half), Ok(()));
+}
+
+#[test]
+fn a_filter_without_a_name_is_refused() {
+    let bare = r#"{
+        "functions": [{"name": "f"}],
+        "diagnostic_filters": [{"parent": null, "inner": {
+            "new_severity": "Off", "triggering_rule": {"Unknown": "no name"}}}],
+        "diagnostic_filter_leaf": 0
+    }"#;
+    let plain = write_json(bare, Flags::empty());
+    assert_eq!(plain.as_deref(), Ok("fn f() {\n}\n\n"));
+    for (json, position) in [
+        (bare.to_string(), "diagnostic_filters[0]"),
+        (
+            format!("{{\"module\": {bare}}}"),
+            "module.diagnostic_filters[0]",
+        ),
+    ] {
+        let error = write_json(&json, Flags::PORTABLE).unwrap_err();
+        assert_eq!(error.construct_kind(), Some(Construct::DiagnosticRule));
+        assert_eq!(error.position(), Some(position));
+        let item = error.place().map(|place| place.item);
+        assert_eq!(item, Some(Item::DiagnosticFilter(0)));
+    }
+    let named = bare.replace("no name", "lint");
+    assert_eq!(
+        write_json(&named, Flags::PORTABLE).as_deref(),
+        Ok("diagnostic(off, lint);\n\nfn f() {\n}\n\n")
+    );
 }
 
 #[test]

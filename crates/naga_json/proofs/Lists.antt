@@ -1,5 +1,5 @@
 -- Items of a list: one more that was read, and how many there are.
-use Rattle.std.proofs.Common.{◌≡◌, ◌+◌, ℕ, List, [], ◌∷◌, ◌++◌, map, length, nat_eq, false, Option, Some, None, refl, ap, rules}
+use Rattle.std.proofs.Common.{◌≡◌, ℕ, List, [], ◌∷◌, ◌++◌, map, length, nat_eq, false, Option, Some, None, refl, ap, rules}
 use Rattle.json.specs.Json.{Json, Items, item}
 use Rattle.json.specs.Find.{as_array}
 use Rattle.json.specs.Value.{items_view}

@@ -1,12 +1,12 @@
 -- What a JSON value says is known of a module: the forms of naga's `ModuleInfo` and what it holds, as serde writes them,
 -- and short ones (docs/JSON.md, "Forms"). Of an info only these members are read, and the others let be.
-use Rattle.std.specs.Prelude.{ℕ, List, [], ◌∷◌, map, Bool, true, false, ◌||◌, if◌then◌else◌}
+use Rattle.std.specs.Prelude.{ℕ, List, [], ◌∷◌, Bool, true, false, ◌||◌, if◌then◌else◌}
 use Rattle.std.specs.Prelude.{Option, Some, None, codes}
 use Rattle.std.specs.Option.{is_some}
-use Rattle.json.specs.Json.{Json, null, boolean, number, string, array, object, Members, no_members, member}
-use Rattle.json.specs.Find.{get, get_member}
-use Rattle.naga_json.specs.Said.{◌>>=◌, Table, ◌⇒◌, codes_of, members_known, field, field_or, list_said}
-use Rattle.naga_json.specs.Said.{items_said, variant_said}
+use Rattle.json.specs.Json.{Json, null, boolean, number, string, array, object}
+use Rattle.json.specs.Find.{get}
+use Rattle.naga_json.specs.Said.{◌>>=◌, Table, ◌⇒◌, members_known, field, field_or, list_said}
+use Rattle.naga_json.specs.Said.{variant_said}
 use Rattle.naga_json.specs.Numbers.{whole_said, index_said}
 use Rattle.naga_json.specs.Text.{json_of}
 use Rattle.naga_json.specs.Types.{type_inner_said}

@@ -9,3 +9,7 @@ of_mesh_info =
 
 abbrev pub of_ray_query : List String
 of_ray_query = "fun" ∷ []
+
+-- comments
+abbrev pub of_module : List String
+of_module = "doc_comments" ∷ []

@@ -11,4 +11,9 @@ pub mod Types
 pub mod Expressions
 pub mod Statements
 pub mod Declarations
+pub mod Diagnostics
 pub mod Infos
+pub mod Labels
+pub mod Functions
+pub mod TypeLists
+pub mod Modules

@@ -6,12 +6,18 @@ use Rattle.naga_info.specs.declared.info.ModuleInfo.{ModuleInfo}
 use Rattle.naga_info.specs.declared.info.TypeResolution.{TypeResolution}
 use Rattle.naga_ir.specs.declared.binding.Binding.{Binding}
 use Rattle.naga_ir.specs.declared.binding.ResourceBinding.{ResourceBinding}
+use Rattle.naga_ir.specs.declared.diagnostics.DiagnosticFilter.{DiagnosticFilter}
+use Rattle.naga_ir.specs.declared.diagnostics.DiagnosticFilterNode.{DiagnosticFilterNode}
+use Rattle.naga_ir.specs.declared.diagnostics.FilterableTriggeringRule.{FilterableTriggeringRule}
+use Rattle.naga_ir.specs.declared.diagnostics.Severity.{Severity}
+use Rattle.naga_ir.specs.declared.diagnostics.StandardFilterableTriggeringRule.{StandardFilterableTriggeringRule}
 use Rattle.naga_ir.specs.declared.expression.Expression.{Expression}
 use Rattle.naga_ir.specs.declared.flags.MemoryDecorations.{MemoryDecorations}
 use Rattle.naga_ir.specs.declared.module.Constant.{Constant}
 use Rattle.naga_ir.specs.declared.module.FunctionArgument.{FunctionArgument}
 use Rattle.naga_ir.specs.declared.module.GlobalVariable.{GlobalVariable}
 use Rattle.naga_ir.specs.declared.module.LocalVariable.{LocalVariable}
+use Rattle.naga_ir.specs.declared.module.Module.{Module}
 use Rattle.naga_ir.specs.declared.module.Override.{Override}
 use Rattle.naga_ir.specs.declared.types.AddressSpace.{AddressSpace}
 use Rattle.naga_ir.specs.declared.types.StructMember.{StructMember}
@@ -118,6 +124,44 @@ pub record SeenArgument : Type 0 where
 
 abbrev pub seen_argument : FunctionArgument → SeenArgument
 seen_argument a = record { name = option_map string_bytes a.name; ty = a.ty; binding = a.binding }
+
+-- ---- filters of diagnostics
+
+pub data SeenRule : Type 0 where
+  standard_rule : StandardFilterableTriggeringRule → SeenRule
+  unknown_rule : (name : List ℕ) → SeenRule
+  user_rule : (names : List (List ℕ)) → SeenRule
+
+abbrev pub seen_rule : FilterableTriggeringRule → SeenRule
+seen_rule (FilterableTriggeringRule.Standard rule) = standard_rule rule
+seen_rule (FilterableTriggeringRule.Unknown name) = unknown_rule (string_bytes name)
+seen_rule (FilterableTriggeringRule.User names) = user_rule (map string_bytes names)
+
+pub record SeenFilter : Type 0 where
+  pub new_severity : Severity
+  pub triggering_rule : SeenRule
+
+abbrev pub seen_filter : DiagnosticFilter → SeenFilter
+seen_filter f =
+    record { new_severity = f.new_severity; triggering_rule = seen_rule f.triggering_rule }
+
+pub record SeenNode : Type 0 where
+  pub inner : SeenFilter
+  pub parent : Option ℕ
+
+abbrev pub seen_node : DiagnosticFilterNode → SeenNode
+seen_node n = record { inner = seen_filter n.inner; parent = n.parent }
+
+-- all filters of a module, and the last of those that hold in it
+pub record SeenFilters : Type 0 where
+  pub nodes : List SeenNode
+  pub leaf : Option ℕ
+
+abbrev pub seen_filters : List DiagnosticFilterNode → (leaf : Option ℕ) → SeenFilters
+seen_filters nodes leaf = record { nodes = map seen_node nodes; leaf = leaf }
+
+abbrev pub filters_of : Module → SeenFilters
+filters_of m = seen_filters m.diagnostic_filters m.diagnostic_filter_leaf
 
 -- ---- what is known of a module
 

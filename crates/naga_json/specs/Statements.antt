@@ -13,7 +13,12 @@ use Rattle.naga_json.specs.LetBe.{of_ray_query}
 use Rattle.naga_json.specs.Operators.{collective_operation_said, subgroup_operation_said}
 use Rattle.naga_json.specs.Operators.{atomic_function_said, gather_mode_said}
 use Rattle.naga_ir.specs.StatementTree as tree
-use Rattle.naga_ir.specs.StatementTree.{StatementTree}
+use Rattle.naga_ir.specs.StatementTree.{StatementTree, BlockTree, CaseTrees}
+use Rattle.naga_ir.specs.declared.statement.SwitchCase.{SwitchCase}
+use Prim.Native.String.{String}
+use Rattle.std.specs.Prelude.{ℕ, zero, suc, List, Bool, codes}
+use Rattle.json.specs.Find.{get}
+use Rattle.naga_json.specs.Said.{or_absent, truth_field}
 use Rattle.naga_ir.specs.declared.statement.Range.{Range}
 use Rattle.naga_ir.specs.declared.statement.RayPipelineFunction.{RayPipelineFunction}
 use Rattle.naga_json.specs.declared.statements.RayPipelineFunctionName.{RayPipelineFunctionName}
@@ -204,3 +209,76 @@ simple_said SimpleName.SubgroupCollectiveOperation j = subgroup_collective_opera
 simple_said SimpleName.CooperativeStore j = cooperative_store_said j
 simple_said SimpleName.RayPipelineFunction j =
     ray_pipeline_function_said j >>= λ f. Some (tree.simple (tree.ray_pipeline_function f))
+
+-- ---- statements with blocks: what they say by what a block does
+
+-- a block that is absent has no statements
+abbrev pub block_if_told_said : (Json → Option BlockTree) → String → Json → Option BlockTree
+block_if_told_said block name j = or_absent block (Some tree.no_statements) (get (codes name) j)
+
+-- what contracts see of a case
+pub record SeenCase : Type 0 where
+  pub value : SwitchValue
+  pub body : BlockTree
+  pub fall_through : Bool
+
+abbrev pub seen_case : SwitchCase → SeenCase
+seen_case c = record { value = c.value; body = c.body; fall_through = c.fall_through }
+
+abbrev pub case_trees : List SeenCase → CaseTrees
+case_trees [] = tree.no_cases
+case_trees (c ∷ cs) = tree.case c.value c.body c.fall_through (case_trees cs)
+
+abbrev pub block_tree : List StatementTree → BlockTree
+block_tree [] = tree.no_statements
+block_tree (s ∷ ss) = tree.statement s (block_tree ss)
+
+abbrev pub if_said : (Json → Option BlockTree) → Json → Option StatementTree
+if_said block j = do
+  _ ← members ("condition" ∷ "accept" ∷ "reject" ∷ []) j
+  condition ← field "condition" index_said j
+  accept ← field "accept" block j
+  reject ← block_if_told_said block "reject" j
+  Some (tree.branch condition accept reject)
+
+abbrev pub loop_said : (Json → Option BlockTree) → Json → Option StatementTree
+loop_said block j = do
+  _ ← members ("break_if" ∷ "body" ∷ "continuing" ∷ []) j
+  break_if ← option_field "break_if" index_said j
+  body ← field "body" block j
+  continuing ← block_if_told_said block "continuing" j
+  Some (tree.loop body continuing break_if)
+
+abbrev pub case_said : (Json → Option BlockTree) → Json → Option SeenCase
+case_said block j = do
+  _ ← members ("value" ∷ "fall_through" ∷ "body" ∷ []) j
+  value ← field "value" switch_value_said j
+  fall_through ← truth_field "fall_through" j
+  body ← field "body" block j
+  Some (record { value = value; body = body; fall_through = fall_through })
+
+abbrev pub switch_said : (Json → Option BlockTree) → Json → Option StatementTree
+switch_said block j = do
+  _ ← members ("selector" ∷ "cases" ∷ []) j
+  selector ← field "selector" index_said j
+  cases ← field "cases" (list_said (case_said block)) j
+  Some (tree.switch selector (case_trees cases))
+
+abbrev pub statement_payload : (Json → Option BlockTree) → StatementName → Json → Option StatementTree
+statement_payload block StatementName.Block j = block j >>= λ b. Some (tree.block b)
+statement_payload block StatementName.If j = if_said block j
+statement_payload block StatementName.Switch j = switch_said block j
+statement_payload block StatementName.Loop j = loop_said block j
+statement_payload block (StatementName.Simple name) j = simple_said name j
+
+abbrev pub statement_said : (Json → Option BlockTree) → Json → Option StatementTree
+statement_said block = variant_said statement_names (statement_payload block)
+
+-- blocks nest at most this many levels, more than those of any text
+abbrev pub most_levels : ℕ
+most_levels = 64
+
+-- a block, of which blocks nest at most so many levels
+unfoldable pub block_said : ℕ → Json → Option BlockTree
+block_said zero j = None
+block_said (suc levels) j = list_said (statement_said (block_said levels)) j >>= λ ss. Some (block_tree ss)

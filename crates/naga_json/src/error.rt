@@ -72,6 +72,13 @@ pub enum Problem {
     Doubled,
     /// It is a block in too many others. Those of a text, whose nesting is bounded, are few enough.
     TooDeep,
+    /// It is a handle of no filter of diagnostics.
+    NoFilter,
+    /// It is the parent of a filter of diagnostics, and no handle of an earlier one.
+    NoEarlierFilter,
+    /// It says that filters of diagnostics hold in one function alone, which modules here have no
+    /// room for: it is neither null nor the leaf of the module.
+    OwnFilters,
 }
 
 impl fmt::Display for Problem {
@@ -87,6 +94,9 @@ impl fmt::Display for Problem {
             Problem::NoKnownMember => f.write_str("no known member"),
             Problem::Doubled => f.write_str("equals an earlier type"),
             Problem::TooDeep => f.write_str("blocks nest too deep"),
+            Problem::NoFilter => f.write_str("no such filter"),
+            Problem::NoEarlierFilter => f.write_str("no earlier filter"),
+            Problem::OwnFilters => f.write_str("not supported unless null or the module's"),
         }
     }
 }

@@ -8,7 +8,8 @@
 //!   `continuing` and `memory_decorations`. Any other absent member is missed.
 //! - Nothing is lost. A member that is not read is refused by its name, unless nothing that a shader
 //!   does hangs on it, as on comments: `let_be.rt` lists those. An early depth test is refused unless
-//!   null: it has no place in a [`naga_ir::Module`]. Of an info only some members are read, and the
+//!   null: it has no place in a [`naga_ir::Module`]. Nor have filters of diagnostics that hold in one
+//!   function alone: those of the module are read. Of an info only some members are read, and the
 //!   others let be.
 //! - An enum is the name of a variant, or an object whose one member is the variant's payload, as
 //!   `"Break"` and `{"Load": {"pointer": 2}}`. The payload of a variant that has none is null:
@@ -42,9 +43,11 @@
 
 mod bindings;
 mod declarations;
+mod diagnostics;
 mod error;
 mod expressions;
 mod infos;
+mod labels;
 mod let_be;
 mod modules;
 mod operators;
@@ -52,6 +55,7 @@ mod shape;
 mod sizes;
 mod statements;
 mod text;
+mod type_lists;
 mod types;
 
 pub use error::{JsonKind, Problem, ReadError};

@@ -44,12 +44,6 @@ pub(crate) trait MayBeAbsent: FromJson {
         ensures { result ≡ absent_said };
 }
 
-/// What is read from a JSON value, of which no contract says yet what the value says.
-pub(crate) trait FromJsonUntold: Sized + Drop {
-    /// Reads it.
-    fn from_json_untold(alloc: Global, value: &Value) -> Result<Self, ReadError>;
-}
-
 /// An enum of which some variant has payload.
 pub(crate) trait Variants: Sized + Drop {
     /// Which variant it is.
@@ -167,38 +161,6 @@ pub(crate) fn fill<T: FromJson>(
     Ok(())
 }
 
-/// The member of this name, read as [`FromJsonUntold`] has it.
-pub(crate) fn untold_member<T: FromJsonUntold>(
-    alloc: Global,
-    value: &Value,
-    name: &str,
-) -> Result<T, ReadError> {
-    if !is_object(value) {
-        return Err(mistyped(alloc, JsonKind::Object));
-    }
-    let read = match value.get(name) {
-        Some(found) => T::from_json_untold(alloc, found),
-        None => Err(missing(alloc)),
-    };
-    in_member(alloc, name, read)
-}
-
-/// The same as [`fill`], as [`FromJsonUntold`] has it.
-pub(crate) fn fill_untold<T: FromJsonUntold>(
-    alloc: Global,
-    value: &Value,
-    name: &str,
-    slot: &mut T,
-) -> Result<(), ReadError> {
-    if !is_object(value) {
-        return Err(mistyped(alloc, JsonKind::Object));
-    }
-    if let Some(found) = value.get(name) {
-        *slot = in_member(alloc, name, T::from_json_untold(alloc, found))?;
-    }
-    Ok(())
-}
-
 /// Refuses an object with a member of another name than these: it says what would be lost.
 pub(crate) fn expect_members(alloc: Global, value: &Value, names: &[&str]) -> Result<(), ReadError>
     ensures { Gives unseen (only (texts names.now) (value_view value.now)) result }
@@ -279,7 +241,7 @@ pub(crate) fn expect_known(alloc: Global, value: &Value, names: &[&str]) -> Resu
 }
 
 /// Whether an object has members.
-fn has_members(members: &Vec<Member>) -> bool
+pub(crate) fn has_members(members: &Vec<Member>) -> bool
     ensures { result ≡ has_members (members_view members.now.items) }
 {
     match last_member(members) {
@@ -733,28 +695,6 @@ impl<T: FromJson + Item> FromJson for Arena<T> {
         let mut read = Arena::new(alloc);
         for (index, item) in items.iter().enumerate() {
             read.append(item_of(alloc, item, index)?)?;
-        }
-        Ok(read)
-    }
-}
-
-impl<T: FromJsonUntold> FromJsonUntold for Vec<T> {
-    fn from_json_untold(alloc: Global, value: &Value) -> Result<Vec<T>, ReadError> {
-        let items = items_of(alloc, value)?;
-        let mut read = Vec::with_capacity(alloc, items.len())?;
-        for (index, item) in items.iter().enumerate() {
-            read.push(in_item(alloc, index, T::from_json_untold(alloc, item))?)?;
-        }
-        Ok(read)
-    }
-}
-
-impl<T: FromJsonUntold + Item> FromJsonUntold for Arena<T> {
-    fn from_json_untold(alloc: Global, value: &Value) -> Result<Arena<T>, ReadError> {
-        let items = items_of(alloc, value)?;
-        let mut read = Arena::new(alloc);
-        for (index, item) in items.iter().enumerate() {
-            read.append(in_item(alloc, index, T::from_json_untold(alloc, item))?)?;
         }
         Ok(read)
     }

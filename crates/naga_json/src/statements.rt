@@ -2,8 +2,14 @@
 
 ghost use Rattle.json.specs.Value.{value_view};
 ghost use Rattle.naga_ir.specs.StatementViews.{tree_of};
-ghost use Rattle.naga_json.specs.Said.{Gives, entry_of, same};
+ghost use Rattle.std.specs.Prelude.{Some, map};
+ghost use Rattle.json.specs.Find.{get};
+ghost use Rattle.naga_ir.specs.StatementTree.{BlockTree, no_statements};
+ghost use Rattle.naga_json.specs.Said.{Gives, entry_of, list_said, member_said, or_absent, same};
 ghost use Rattle.naga_json.specs.Statements.{return_said, simple_said, statement_names};
+ghost use Rattle.naga_json.specs.Statements.{block_said, most_levels, statement_said};
+ghost use Rattle.naga_json.specs.Statements.{statement_payload};
+ghost use Rattle.naga_json.specs.Statements.{if_said, loop_said, switch_said, case_said, seen_case};
 ghost use Rattle.naga_json.specs.Statements.{switch_value_names, switch_value_payload};
 ghost use Rattle.naga_json.specs.Statements.{switch_value_said, ray_pipeline_function_names};
 ghost use Rattle.naga_json.specs.Statements.{trace_ray_said, ray_pipeline_function_payload};
@@ -18,9 +24,8 @@ ghost use Rattle.naga_json.specs.Statements.{cooperative_store_said, range_said}
 use crate::error::{JsonKind, Problem, ReadError};
 use crate::let_be;
 use crate::shape::{
-    FromJson, FromJsonUntold, Variants, entry_named, expect_members, expect_members_beside,
-    in_item, in_member, items_of, member, missing, mistyped, named_variant, optional_member,
-    read_variant, unit,
+    FromJson, Variants, entry_named, expect_members, expect_members_beside, in_item, in_member,
+    items_of, member, missing, mistyped, named_variant, optional_member, read_variant, unit,
 };
 use json::Value;
 use naga_ir::{Block, Range, RayPipelineFunction, Statement, SwitchCase, SwitchValue};
@@ -437,28 +442,38 @@ impl FromJson for Range {
     }
 }
 
-impl FromJsonUntold for Block {
-    fn from_json_untold(alloc: Global, value: &Value) -> Result<Block, ReadError> {
+impl FromJson for Block {
+    ghost Seen = { BlockTree };
+
+    ghost seen = { same };
+
+    ghost said = { block_said most_levels };
+
+    fn from_json(alloc: Global, value: &Value) -> Result<Block, ReadError> {
         block(alloc, value, MOST_LEVELS)
     }
 }
 
 /// The block, whose blocks nest at most `levels` deep.
 #[cycle(statements)]
-fn block(alloc: Global, value: &Value, levels: u32) -> Result<Block, ReadError> {
+fn block(alloc: Global, value: &Value, levels: u32) -> Result<Block, ReadError>
+    ensures { Gives same (block_said levels (value_view value.now)) result }
+{
     let items = items_of(alloc, value)?;
     if levels == 0 {
         return Err(ReadError::at(alloc, Problem::TooDeep));
     }
-    let mut read = Block::new(alloc);
+    let mut read = Vec::new(alloc);
     for (index, item) in items.iter().enumerate() {
         read.push(in_item(alloc, index, statement(alloc, item, levels - 1))?)?;
     }
-    Ok(read)
+    Ok(Block::from_vec(read))
 }
 
 #[cycle(statements)]
-fn statement(alloc: Global, value: &Value, levels: u32) -> Result<Statement, ReadError> {
+fn statement(alloc: Global, value: &Value, levels: u32) -> Result<Statement, ReadError>
+    ensures { Gives tree_of (statement_said (block_said levels) (value_view value.now)) result }
+{
     let null = Value::Null;
     let Some(found) = named_variant(&*value, &null) else {
         return Err(mistyped(alloc, JsonKind::Variant));
@@ -477,7 +492,10 @@ fn named_statement(
     name: StatementName,
     payload: &Value,
     levels: u32,
-) -> Result<Statement, ReadError> {
+) -> Result<Statement, ReadError>
+    ensures { Gives tree_of
+        (statement_payload (block_said levels) name (value_view payload.now)) result }
+{
     match name {
         StatementName::Block => Ok(Statement::Block(block(alloc, payload, levels)?)),
         StatementName::If => if_else(alloc, payload, levels),
@@ -489,12 +507,10 @@ fn named_statement(
 
 /// The block that is the member of this name.
 #[cycle(statements)]
-fn member_block(
-    alloc: Global,
-    payload: &Value,
-    name: &str,
-    levels: u32,
-) -> Result<Block, ReadError> {
+fn member_block(alloc: Global, payload: &Value, name: &str, levels: u32) -> Result<Block, ReadError>
+    ensures { Gives same
+        (member_said (block_said levels) name.now (value_view payload.now)) result }
+{
     match payload.get(name) {
         Some(found) => in_member(alloc, name, block(alloc, found, levels)),
         None => in_member(alloc, name, Err(missing(alloc))),
@@ -508,7 +524,10 @@ fn block_if_told(
     payload: &Value,
     name: &str,
     levels: u32,
-) -> Result<Block, ReadError> {
+) -> Result<Block, ReadError>
+    ensures { Gives same (or_absent (block_said levels) (Some no_statements)
+        (get name.now (value_view payload.now))) result }
+{
     match payload.get(name) {
         Some(found) => in_member(alloc, name, block(alloc, found, levels)),
         None => Ok(Block::new(alloc)),
@@ -516,7 +535,9 @@ fn block_if_told(
 }
 
 #[cycle(statements)]
-fn if_else(alloc: Global, payload: &Value, levels: u32) -> Result<Statement, ReadError> {
+fn if_else(alloc: Global, payload: &Value, levels: u32) -> Result<Statement, ReadError>
+    ensures { Gives tree_of (if_said (block_said levels) (value_view payload.now)) result }
+{
     expect_members(alloc, payload, &["condition", "accept", "reject"])?;
     let condition = member(alloc, payload, "condition")?;
     let accept = member_block(alloc, payload, "accept", levels)?;
@@ -529,7 +550,9 @@ fn if_else(alloc: Global, payload: &Value, levels: u32) -> Result<Statement, Rea
 }
 
 #[cycle(statements)]
-fn loop_of(alloc: Global, payload: &Value, levels: u32) -> Result<Statement, ReadError> {
+fn loop_of(alloc: Global, payload: &Value, levels: u32) -> Result<Statement, ReadError>
+    ensures { Gives tree_of (loop_said (block_said levels) (value_view payload.now)) result }
+{
     expect_members(alloc, payload, &["break_if", "body", "continuing"])?;
     let break_if = optional_member(alloc, payload, "break_if")?;
     let body = member_block(alloc, payload, "body", levels)?;
@@ -542,7 +565,9 @@ fn loop_of(alloc: Global, payload: &Value, levels: u32) -> Result<Statement, Rea
 }
 
 #[cycle(statements)]
-fn switch(alloc: Global, payload: &Value, levels: u32) -> Result<Statement, ReadError> {
+fn switch(alloc: Global, payload: &Value, levels: u32) -> Result<Statement, ReadError>
+    ensures { Gives tree_of (switch_said (block_said levels) (value_view payload.now)) result }
+{
     expect_members(alloc, payload, &["selector", "cases"])?;
     let selector = member(alloc, payload, "selector")?;
     let cases = match payload.get("cases") {
@@ -556,7 +581,10 @@ fn switch(alloc: Global, payload: &Value, levels: u32) -> Result<Statement, Read
 }
 
 #[cycle(statements)]
-fn cases_of(alloc: Global, value: &Value, levels: u32) -> Result<Vec<SwitchCase>, ReadError> {
+fn cases_of(alloc: Global, value: &Value, levels: u32) -> Result<Vec<SwitchCase>, ReadError>
+    ensures { Gives (λ cases. map seen_case cases.items)
+        (list_said (case_said (block_said levels)) (value_view value.now)) result }
+{
     let items = items_of(alloc, value)?;
     let mut read = Vec::new(alloc);
     for (index, item) in items.iter().enumerate() {
@@ -566,7 +594,9 @@ fn cases_of(alloc: Global, value: &Value, levels: u32) -> Result<Vec<SwitchCase>
 }
 
 #[cycle(statements)]
-fn case_of(alloc: Global, payload: &Value, levels: u32) -> Result<SwitchCase, ReadError> {
+fn case_of(alloc: Global, payload: &Value, levels: u32) -> Result<SwitchCase, ReadError>
+    ensures { Gives seen_case (case_said (block_said levels) (value_view payload.now)) result }
+{
     expect_members(alloc, payload, &["value", "fall_through", "body"])?;
     let value = member(alloc, payload, "value")?;
     let fall_through = optional_member(alloc, payload, "fall_through")?;

@@ -26,17 +26,17 @@ ghost use Rattle.naga_json.specs.Flags.{flags_said, storage_access_said, memory_
 ghost use Rattle.naga_json.specs.Flags.{barrier_said, no_decorations};
 ghost use Rattle.naga_json.specs.Numbers.{constant_size_said};
 
-use crate::error::{JsonKind, Problem, ReadError};
+use crate::error::{Problem, ReadError};
 use crate::shape::{
-    FromJson, FromJsonUntold, MayBeAbsent, Variants, expect_members, in_item, item_of, items_of,
-    member, mistyped, optional_member, read_variant, unit, unknown, word,
+    FromJson, MayBeAbsent, Variants, expect_members, member, optional_member, read_variant, unit,
+    unknown, word,
 };
 use bitflags::{Flags, parser};
 use json::Value;
 use naga_ir::{
     AddressSpace, ArraySize, Barrier, CooperativeRole, CooperativeSize, ImageClass, ImageDimension,
     MemoryDecorations, PredeclaredType, Scalar, ScalarKind, StorageAccess, StorageFormat,
-    StructMember, Type_, TypeInner, UniqueArena, VectorSize,
+    StructMember, Type_, TypeInner, VectorSize,
 };
 use std::alloc::Global;
 use std::num::NonZeroU32;
@@ -829,19 +829,5 @@ impl FromJson for Barrier {
 
     fn from_json(alloc: Global, value: &Value) -> Result<Barrier, ReadError> {
         flags(alloc, value)
-    }
-}
-
-impl FromJsonUntold for UniqueArena<Type_> {
-    fn from_json_untold(alloc: Global, value: &Value) -> Result<UniqueArena<Type_>, ReadError> {
-        let items = items_of(alloc, value)?;
-        let mut read = UniqueArena::new(alloc);
-        for (index, item) in items.iter().enumerate() {
-            let handle = read.insert(item_of(alloc, item, index)?)?;
-            if handle.index() != index {
-                return in_item(alloc, index, Err(ReadError::at(alloc, Problem::Doubled)));
-            }
-        }
-        Ok(read)
     }
 }

@@ -1,5 +1,5 @@
 -- what was read, and what the rest says, is what all say
-use Rattle.std.proofs.Common.{◌≡◌, ◌++◌, drop, map, Option, Some}
+use Rattle.std.proofs.Common.{◌≡◌, ◌++◌, drop, map, Some}
 use Rattle.json.specs.Value.{items_view}
 use Rattle.naga_json.specs.Said.{◌>>=◌, items_said}
 use Rattle.naga_json.proofs.shape.ArenaFromJson.from_json.Given as goal
