@@ -10,10 +10,9 @@
 
 mod words;
 
-use std::io;
 use std::io::{BufWriter, IsTerminal, Write};
 use std::process::ExitCode;
-use words::words_of;
+use words::{WordsError, words_of};
 use yorwethul_answers::{FAILED, Terminals, run};
 
 /// Runs the program on its words, and ends with its status.
@@ -21,20 +20,20 @@ fn main(rt: HostRuntime) -> ExitCode {
     match answer(&rt) {
         Ok(status) => ExitCode::from(status),
         Err(error) => {
-            let _ = writeln!(rt.stderr(), "{error}");
+            let _ = writeln!(rt.stderr(), "yorwethul: {error}");
             ExitCode::from(FAILED)
         }
     }
 }
 
-fn answer(rt: &HostRuntime) -> io::Result<u8> {
+fn answer(rt: &HostRuntime) -> Result<u8, WordsError> {
     let alloc = rt.alloc();
-    let mut err = rt.stderr();
-    let words = words_of(rt, &mut err)?;
+    let words = words_of(rt)?;
     let terminals = Terminals {
         asks: rt.stdin().is_terminal(),
         watches: rt.stderr().is_terminal() && !rt.stdout().is_terminal(),
     };
     let mut out = BufWriter::new(alloc, rt.stdout())?;
+    let mut err = rt.stderr();
     Ok(run(rt, &words, &mut out, &mut err, terminals))
 }

@@ -1,23 +1,27 @@
-//! The words of the call, of which one that is no text may be the name of a file.
+//! The words of the call.
 
-use os::open_read;
 use std::env::{Env, FillError};
 use std::io;
-use std::io::{ErrorKind, Write};
+use thiserror::Error;
 
-/// How many bytes a word has at most that is no text.
-const LONGEST: usize = 4_096;
+/// Why the words of the call can't be read.
+#[derive(Debug, Drop, Error)]
+pub enum WordsError {
+    /// A word that is no UTF-8, as it can be shown. The paths that the program can open are UTF-8.
+    #[error("{0}: this word is no UTF-8; a file of such a name can be the standard input: < NAME")]
+    NoUtf8(String),
+    /// Memory was refused.
+    #[error("{0}")]
+    Memory(#[from] io::Error),
+}
 
-/// The words of the call. A file can have a name that is no text, and the paths of this program are
-/// texts. So a word that is none is taken for the name of a file, which is opened, and the word is then
-/// the path by which Linux calls the open file, as `/proc/self/fd/3`. That is told, since messages have
-/// this path.
-pub fn words_of<R: Env + AllocGlobal, E: Write>(rt: &R, err: &mut E) -> io::Result<Vec<String>> {
+/// The words of the call. An `Err` names the first that is no text.
+pub fn words_of<R: Env + AllocGlobal>(rt: &R) -> Result<Vec<String>, WordsError> {
     let alloc = rt.alloc();
     let mut words = Vec::new(alloc);
     for at in 0..usize::MAX {
         match bytes_of(rt, at)? {
-            Some(bytes) => words.push(text_of(rt, bytes, err)?)?,
+            Some(bytes) => words.push(text_of(rt, bytes)?).map_err(io::Error::from)?,
             None => break,
         }
     }
@@ -38,31 +42,17 @@ fn bytes_of<R: Env + AllocGlobal>(rt: &R, at: usize) -> io::Result<Option<Vec<u8
             Err(FillError::TooLong) => room = room.saturating_mul(2),
         }
     }
-    Err(io::Error::from(ErrorKind::OutOfMemory))
+    Err(io::Error::from(io::ErrorKind::OutOfMemory))
 }
 
 /// A word as a text.
-fn text_of<R: AllocGlobal, E: Write>(rt: &R, word: Vec<u8>, err: &mut E) -> io::Result<String> {
+fn text_of<R: AllocGlobal>(rt: &R, word: Vec<u8>) -> Result<String, WordsError> {
     match String::from_utf8(word) {
         Ok(text) => Ok(text),
-        Err(no_text) => path_of(rt, no_text.into_bytes().as_slice(), err),
+        Err(no_text) => {
+            let bytes = no_text.into_bytes();
+            let shown = String::from_utf8_lossy(rt.alloc(), bytes.as_slice()).map_err(io::Error::from)?;
+            Err(WordsError::NoUtf8(shown))
+        }
     }
-}
-
-/// The path of the file of this name, which is opened.
-fn path_of<R: AllocGlobal, E: Write>(rt: &R, name: &[u8], err: &mut E) -> io::Result<String> {
-    let alloc = rt.alloc();
-    let shown = String::from_utf8_lossy(alloc, name)?;
-    let file = open_read(name);
-    if file < 0 {
-        let error = io::Error::from_raw_os_error(os::errno());
-        let _ = write!(err, "{shown}: ");
-        return Err(error);
-    }
-    let path = format!(in alloc; "/proc/self/fd/{file}")?;
-    let _ = writeln!(
-        err,
-        "yorwethul: {shown}, whose name is no text, is read as {path}"
-    );
-    Ok(path)
 }
