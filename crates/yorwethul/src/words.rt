@@ -51,7 +51,9 @@ fn text_of<R: AllocGlobal>(rt: &R, word: Vec<u8>) -> Result<String, WordsError> 
         Ok(text) => Ok(text),
         Err(no_text) => {
             let bytes = no_text.into_bytes();
-            let shown = String::from_utf8_lossy(rt.alloc(), bytes.as_slice()).map_err(io::Error::from)?;
+            let shown = String::from_utf8_lossy(rt.alloc(), bytes.as_slice()).map_err(
+                io::Error::from,
+            )?;
             Err(WordsError::NoUtf8(shown))
         }
     }
