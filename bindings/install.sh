@@ -3,7 +3,7 @@
 #
 #   bin/yorwethul, share/man/man1, share/bash-completion      the program, its page, its completions
 #   lib, lib/pkgconfig, lib/cmake/yorwethul, include          the library for C and C++
-#   share/yorwethul                                           the Rust crates, the module for Python
+#   share/yorwethul                                           the Rust crates, the module for Python; how the program was made
 #   share/doc/yorwethul                                       what is proved, the licences, the pages for users
 #
 # DESTDIR stands in front of PREFIX where it is set. Nothing is compiled.
@@ -34,5 +34,5 @@ mkdir -p "$to/lib/pkgconfig" "$to/share/yorwethul"
 # beside this file the library lies where the .pc file does, and below PREFIX two folders above it
 sed -e 's|^Cflags: .*|Cflags: -I${pcfiledir}/../../include|' -e 's|^Libs: .*|Libs: ${pcfiledir}/../libyorwethul.a|' \
     yorwethul.pc >"$to/lib/pkgconfig/yorwethul.pc"
-cp -R rust rust-naga python "$to/share/yorwethul/"
+cp -R rust rust-naga python yorwethul.made "$to/share/yorwethul/"
 place share/doc/yorwethul WHAT_IS_PROVED LICENSE LICENSE-APACHE LICENSE-MIT doc/*

@@ -122,3 +122,18 @@ __int128 __lshrti3(__int128 value, int count) {
     y.parts.high = count < 64 ? x.parts.high >> count : 0;
     return (__int128)y.whole;
 }
+
+wide __udivti3(wide above, wide below) {
+    wide quotient = 0, rest = 0;
+    for (int bit = 0; bit < 128; bit++) {
+        _Bool carry = rest >> 127;
+        rest = rest << 1 | above >> 127;
+        above <<= 1;
+        quotient <<= 1;
+        if (carry || rest >= below) {
+            rest -= below;
+            quotient |= 1;
+        }
+    }
+    return quotient;
+}

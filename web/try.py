@@ -79,7 +79,7 @@ def shown_of(answer):
     """The status and the text by which the page shows what the program answers."""
     label = ', in "{function}"'.format(**answer) if "function" in answer else ""
     root = ": {root}".format(**answer) if "root" in answer else ""
-    return ("refused", "{refused}: {place}".format(**answer) + label + root) if "refused" in answer else ("done", answer["text"])
+    return ("refused", "{refused}: {position}".format(**answer) + label + root) if "refused" in answer else ("done", answer["text"])
 
 
 def ask(browser, port, words, wanted):

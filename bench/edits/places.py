@@ -57,14 +57,22 @@ def is_in_body(lines, head, line, indent):
     return opened is not None and f"{indent}}}" not in lines[opened:line]
 
 
+def named(kind, own):
+    """The name of a type in a path: its words without lifetimes and the parameters of its impl, `ArrayU323` of `[u32; 3]`."""
+    own = set(re.findall(r"[<,]\s*(?:const )?(\w+)", re.sub(r"'\w+", "", own)))
+    words = re.findall(r"\w+", re.sub(r"'\w+", "", kind.split(" where ")[0]))
+    return ("Array" if kind.startswith("[") else "") + "".join(it[0].upper() + it[1:] for it in words if it not in own)
+
+
 def path_of(path, lines, head, name):
     """The path of a function below its crate, as a check prints it."""
     modules = [it for it in Path(path).with_suffix("").parts[1:] if it not in ("lib", "main", "mod")]
     owner = []
     if lines[head].startswith(" "):
         around = next((lines[it] for it in range(head, -1, -1) if re.match(r"\S.*\{$", lines[it])), "")
-        found = re.match(r"impl(?:<[^{]*?>)? (?:(?P<trait>[\w:]+)(?:<[^{]*>)? for )?(?P<type>\w+)", around)
+        found = re.match(
+            r"impl(?P<own><[^{]*?>)? (?:(?P<trait>[\w:]+)(?:<[^{]*>)? for )?(?P<type>\[?\w[^{]*)", around)
         if not found:
             return None
-        owner = [found["type"] + (found["trait"] or "").split("::")[-1]]
+        owner = [named(found["type"], found["own"] or "") + (found["trait"] or "").split("::")[-1]]
     return "::".join([*modules, *owner, name])

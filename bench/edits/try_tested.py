@@ -1,8 +1,7 @@
 #!/usr/bin/env python3
-"""Tries the edits of bench/edits/tested: wrong bodies that the tests of `wgsl_tests`, and those of `naga_json` in
-`module_tests` and the cases of `listing_cases`, are to refuse. Those that find no memory where there is some are refused by
-nothing else, since no contract says when memory is there, nor are those of `naga_json`, which has no contracts of what is
-read. Each is made on a copy of the crates, whose tests and cases are run without any proof; one of them must fail.
+"""Tries the edits of bench/edits/tested: wrong bodies that the tests of `wgsl_tests` are to refuse. Nothing else refuses
+them, since no contract says when memory is there. Each is made on a copy of the crates, whose tests and cases are run without
+any proof; one of them must fail.
 
 Run it at the top of the repository, with the names of edits for these alone. Each takes some minutes.
 """
@@ -15,8 +14,8 @@ import tempfile
 from pathlib import Path
 
 TOP = Path(__file__).resolve().parents[2]
-# The crates of tests, and of a program with cases, that are to refuse the edits of a crate.
-TESTS = {"naga_json": ["listing_cases", "module_tests"], "naga_wgsl_out": ["wgsl_tests"]}
+# The crates of tests, or of a program with cases, that are to refuse the edits of a crate.
+TESTS = {"naga_wgsl_out": ["wgsl_tests"]}
 
 
 def main(names):

@@ -8,6 +8,7 @@
 #   lemmas and definitions that nothing uses (unused.py);
 #   public names that no test imports (public.py);
 #   imports of what the named file has not (imports.py);
+#   heads that name other contracts than their lemmas serve (serves.py, which also writes them);
 #   lines of prose that are too long, and long paragraphs (wrap.py, which also lays them out).
 # It is quiet, and its status is 0, where all is so. Run it at the top of the repository, with pages for the names of these alone.
 here=$(dirname "$0")
@@ -19,5 +20,6 @@ python3 "$here/mentions.py" --check || status=1
 python3 "$here/unused.py" || status=1
 python3 "$here/public.py" || status=1
 python3 "$here/imports.py" || status=1
+python3 "$here/serves.py" || status=1
 python3 "$here/wrap.py" --check || status=1
 exit $status

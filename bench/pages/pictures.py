@@ -45,6 +45,7 @@ LAYERS = [
         ("wgsl_layout", "WGSL's rules, by numbers"),
         ("naga_layout", "layouts of a module's types"),
         ("module_limits", "nesting, bounded texts"),
+        ("diagnostic_directives", "what stands in front"),
     ]),
     ("languages", LAWS, [
         ("wgsl_text", "the grammar of texts"),

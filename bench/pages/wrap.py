@@ -46,7 +46,7 @@ def wrapped(lines, columns):
 def main(words):
     check = "--check" in words
     named = [Path(word) for word in words if not word.startswith("--")]
-    pages = named or [Path("README.md"), *sorted(Path("docs").glob("*.md"))]
+    pages = named or [Path("README.md"), *sorted(Path("docs").glob("*.md")), *sorted(Path("bindings").glob("*/README.md"))]
     faults = []
     for page in pages:
         columns = README_COLUMNS if page.name == "README.md" else COLUMNS

@@ -7,8 +7,8 @@ uint32_t proved_yorwethul_write(const uint8_t *json, size_t json_length, uint32_
                                 size_t out_length, size_t *needed);
 uint32_t proved_yorwethul_check(const uint8_t *json, size_t json_length, uint8_t *out, size_t out_length,
                                 size_t *needed);
-uint32_t proved_yorwethul_layout(const uint8_t *json, size_t json_length, uint8_t *out, size_t out_length,
-                                 size_t *needed);
+uint32_t proved_yorwethul_layout(const uint8_t *json, size_t json_length, uint32_t flags, uint8_t *out,
+                                 size_t out_length, size_t *needed);
 uint32_t proved_yorwethul_names(const uint8_t *json, size_t json_length, uint32_t flags, uint8_t *out,
                                 size_t out_length, size_t *needed);
 uint32_t proved_yorwethul_version(void);
@@ -27,8 +27,10 @@ uint32_t yorwethul_check(const uint8_t *json, size_t json_length, uint8_t *out, 
     return proved_yorwethul_check(BYTES(json, json_length), json_length, BYTES(out, out_length), out_length, needed);
 }
 
-uint32_t yorwethul_layout(const uint8_t *json, size_t json_length, uint8_t *out, size_t out_length, size_t *needed) {
-    return proved_yorwethul_layout(BYTES(json, json_length), json_length, BYTES(out, out_length), out_length, needed);
+uint32_t yorwethul_layout(const uint8_t *json, size_t json_length, uint32_t flags, uint8_t *out, size_t out_length,
+                          size_t *needed) {
+    return proved_yorwethul_layout(BYTES(json, json_length), json_length, flags, BYTES(out, out_length), out_length,
+                                   needed);
 }
 
 uint32_t yorwethul_names(const uint8_t *json, size_t json_length, uint32_t flags, uint8_t *out, size_t out_length,

@@ -24,7 +24,9 @@ enum yorwethul_status {
     YORWETHUL_DONE = 0,          /* out has what was asked for: WGSL, layouts, names, or nothing of yorwethul_check */
     YORWETHUL_REFUSED = 1,       /* it is accepted, and refused, by the construct, its position and the label of
                                     the function there, quoted as Rust does:
-                                    float literal: module.functions[0].expressions[3], in statement 1, in "half" */
+                                    float literal: module.functions[0].expressions[3], in statement 1, in "half";
+                                    or for a filter of diagnostics:
+                                    diagnostic rule without a WGSL name: module.diagnostic_filters[2] */
     YORWETHUL_NOT_ACCEPTED = 2,  /* it is not accepted: module.functions[0].expressions[3], in "half": .. */
     YORWETHUL_NO_MODULE = 3,     /* the bytes hold none; out tells where and why */
     YORWETHUL_UNKNOWN_FLAG = 4,  /* a bit is set that no flag has */
@@ -39,7 +41,9 @@ enum yorwethul_status {
 
 /* flags */
 #define YORWETHUL_EXPLICIT_TYPES 1u /* each `let` states its type */
-#define YORWETHUL_PORTABLE 2u       /* the text has what standard compilers ask for, as `enable subgroups;` */
+#define YORWETHUL_PORTABLE 2u       /* the text has what standard compilers ask for, as `enable subgroups;` and `let`s for
+                                     * operands that stand too deep, and begins with the directives of the module's
+                                     * filters of diagnostics */
 #define YORWETHUL_DECIMAL_FLOATS 4u /* floats are written, by the digits that Rust gives them, and names may end in digits, as
                                      * pass2; else F32, F64 and F16 are refused, and such a name is pass2_ */
 
@@ -51,7 +55,9 @@ uint32_t yorwethul_write(const uint8_t *json, size_t json_length, uint32_t flags
                          uint8_t *out, size_t out_length, size_t *needed);
 uint32_t yorwethul_check(const uint8_t *json, size_t json_length,
                          uint8_t *out, size_t out_length, size_t *needed);
-uint32_t yorwethul_layout(const uint8_t *json, size_t json_length,
+
+/* Where the members of the structs stand, under the names of the text that the module has under these flags. */
+uint32_t yorwethul_layout(const uint8_t *json, size_t json_length, uint32_t flags,
                           uint8_t *out, size_t out_length, size_t *needed);
 
 /* Which identifier of the text that the module has under these flags stands for which item of it: one line of JSON,

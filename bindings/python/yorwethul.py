@@ -72,7 +72,7 @@ class Library:
         self._calls = ctypes.CDLL(os.fspath(path) if path else find_library())
         text = [ctypes.c_void_p, ctypes.c_size_t, ctypes.POINTER(ctypes.c_size_t)]
         flags_alone = [ctypes.c_uint32]
-        for name, flags in (("write", flags_alone), ("check", []), ("layout", []), ("names", flags_alone)):
+        for name, flags in (("write", flags_alone), ("check", []), ("layout", flags_alone), ("names", flags_alone)):
             call = getattr(self._calls, f"yorwethul_{name}")
             call.argtypes = [ctypes.c_char_p, ctypes.c_size_t, *flags, *text]
             call.restype = ctypes.c_uint32
@@ -85,9 +85,9 @@ class Library:
         """Nothing, where the module is accepted. An Error says where it is not, and why."""
         self._call("check", json)
 
-    def layout(self, json: str | bytes) -> str:
-        """A line for each struct and each member: where it stands in memory."""
-        return self._call("layout", json)
+    def layout(self, json: str | bytes, flags: Flags | int = Flags.DEFAULT) -> str:
+        """A line for each struct and each member: where it stands in memory, under the names of the text by these flags."""
+        return self._call("layout", json, int(flags))
 
     def names(self, json: str | bytes, flags: Flags | int = Flags.DEFAULT) -> dict[str, list[dict[str, Any]]]:
         """Which identifier of the text by these flags stands for which item: for each kind of item a list, of which each
@@ -135,9 +135,9 @@ def check(json: str | bytes) -> None:
     _library().check(json)
 
 
-def layout(json: str | bytes) -> str:
+def layout(json: str | bytes, flags: Flags | int = Flags.DEFAULT) -> str:
     """As Library.layout."""
-    return _library().layout(json)
+    return _library().layout(json, flags)
 
 
 def names(json: str | bytes, flags: Flags | int = Flags.DEFAULT) -> dict[str, list[dict[str, Any]]]:
@@ -145,8 +145,12 @@ def names(json: str | bytes, flags: Flags | int = Flags.DEFAULT) -> dict[str, li
     return _library().names(json, flags)
 
 
+# With what status a process ends by that of a call, where it is not 2.
+PROCESS_STATUSES = {Status.REFUSED: 1, Status.TOO_DEEP: 1, Status.TOO_LONG: 1, Status.NOT_ACCEPTED: 3}
+
+
 def main(words: list[str] | None = None) -> int:
-    """Prints a text, and gives the status of a process: 0, 1 where there is no text, 2 where something can't be read or written."""
+    """Prints a text, and gives the status of a process: 0; 1 of a module that is refused; 3 of one that is not accepted; else 2."""
     parser = argparse.ArgumentParser(prog="yorwethul", description="Prints the WGSL text of a module that is read from JSON.")
     parser.add_argument("file", help="the file with the JSON; - is the standard input")
     parser.add_argument("--library", help="the libyorwethul.so whose calls are made")
@@ -169,12 +173,12 @@ def main(words: list[str] | None = None) -> int:
         elif asked.names:
             text = json_texts.dumps(library.names(json, flags), ensure_ascii=False) + "\n"
         else:
-            text = library.layout(json) if asked.layout else library.write(json, flags)
+            text = library.layout(json, flags) if asked.layout else library.write(json, flags)
         sys.stdout.buffer.write(text.encode())
         sys.stdout.flush()
     except Error as error:
         print(error, file=sys.stderr)
-        return 1
+        return PROCESS_STATUSES.get(error.status, 2)
     except OSError as error:
         print(f"yorwethul: {error}", file=sys.stderr)
         return 2

@@ -73,7 +73,7 @@ static struct answer call(enum call which, const uint8_t *json, size_t length, u
         it.status = yorwethul_write(json, length, all_flags, out, room, &it.needed);
         break;
     case CHECK: it.status = yorwethul_check(json, length, out, room, &it.needed); break;
-    case LAYOUT: it.status = yorwethul_layout(json, length, out, room, &it.needed); break;
+    case LAYOUT: it.status = yorwethul_layout(json, length, all_flags, out, room, &it.needed); break;
     default: it.status = yorwethul_names(json, length, all_flags, out, room, &it.needed); break;
     }
     is_counted = 0;

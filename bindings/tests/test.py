@@ -56,6 +56,9 @@ BARRIER = b'{"module":{"functions":[{"name":"meet","body":[{"ControlBarrier":"SU
 STRUCT = (b'{"module":{"types":[{"inner":{"Scalar":{"kind":"Uint","width":4}}},'
           b'{"name":"One","inner":{"Struct":{"span":4,"members":[{"name":"a","ty":0,"offset":0}]}}}]},"info":{}}')
 STRUCT_LAYOUT = "struct One: align 4, size 4\n    a: u32, offset 0, align 4, size 4\n"
+# A struct whose label ends in a digit, which the text keeps where floats are decimal.
+DIGITS = STRUCT.replace(b"One", b"Light2")
+DIGITS_LAYOUT = STRUCT_LAYOUT.replace("One", "{}")
 DOUBLE_TEXT = "fn double(x: i32) -> i32 {\n    return (x + x);\n}\n\n"
 DOUBLE_NAMES = ('{"constants":[],"entry_points":[],"functions":[{"handle":0,"identifier":"double","label":"double"}],'
                 '"globals":[],"overrides":[],"structs":[]}')
@@ -114,14 +117,17 @@ CALLS = [
     ("check", [], ALONE, DONE, ""),
     ("check", [], b'{"module":' + UNTYPED + b"}", NOT_ACCEPTED, OWN_OPERAND + "it has no type"),
     ("write", [0], UNTYPED, NOT_ACCEPTED, OWN_OPERAND.removeprefix("module.") + "it has no type"),
-    ("layout", [], UNTYPED, NOT_ACCEPTED, OWN_OPERAND.removeprefix("module.") + "it has no type"),
+    ("layout", [0], UNTYPED, NOT_ACCEPTED, OWN_OPERAND.removeprefix("module.") + "it has no type"),
     ("write", [0], b"[", NO_MODULE, "no JSON at line 1"),
     # too many lists in one another, of which the first stand in a string
     ("write", [0], b'["[[\\"", ' + b"[" * 128, TOO_DEEP, "lists and objects nest more than 127 deep"),
     ("check", [], "double", DONE, ""),
     ("check", [], "its_own_operand", NOT_ACCEPTED, OWN_OPERAND),
-    ("layout", [], STRUCT, DONE, STRUCT_LAYOUT),
-    ("layout", [], b'{"info":{}}', NO_MODULE, "module: missing"),
+    ("layout", [0], STRUCT, DONE, STRUCT_LAYOUT),
+    ("layout", [ALL_FLAGS + 1], STRUCT, UNKNOWN_FLAG, "a bit is set that no flag has"),
+    ("layout", [0], DIGITS, DONE, DIGITS_LAYOUT.format("Light2_")),
+    ("layout", [ALL_FLAGS], DIGITS, DONE, DIGITS_LAYOUT.format("Light2")),
+    ("layout", [0], b'{"info":{}}', NO_MODULE, "module: missing"),
     ("names", [0], "double", DONE, DOUBLE_NAMES),
     ("names", [ALL_FLAGS], "double", DONE, DOUBLE_NAMES),
     ("names", [ALL_FLAGS + 1], "double", UNKNOWN_FLAG, "a bit is set that no flag has"),
@@ -230,11 +236,12 @@ def test_python(room):
     for flags in range(ALL_FLAGS + 1):
         must(library.write("0 1 abc", flags) == "abc" * (1 + flags), f"the flags {flags} are not asked for")
     must(library.write(b"0 200 abc") == "abc" * (200 + yorwethul.Flags.DEFAULT), "a long text is not whole")
-    must(library.layout("0 2 x") == "xx" and library.check("0 1 x") is None, "another call is made")
+    must(library.layout("0 2 x", 0) == "xx" and library.layout("0 2 x") == "x" * (2 + yorwethul.Flags.DEFAULT), "layouts are asked for by other flags")
+    must(library.check("0 1 x") is None, "another call is made")
     must(library.names("0 1 1", PORTABLE) == 111 and library.names("0 1 1") == 1_111_111, "names are asked for by other flags")
     for order, status, shown in (("2 1 wrong", NOT_ACCEPTED, "not accepted: wrong"), ("5 0 ", OUT_OF_MEMORY, "out of memory"), ("9 1 odd", 9, "status 9: odd")):
         try:
-            told = library.layout(order)
+            told = library.layout(order, 0)
         except yorwethul.Error as error:
             told = (error.status, str(error))
         must(told == (status, shown), f"{told!r} of {order!r}")
@@ -248,7 +255,9 @@ def test_python(room):
     named = write(room / "named", "0 1 1")
     must(run(*program, "--names", "--plain", named, env=environment) == "1\n", "--names --plain prints something else")
     must(run(*program, "-", env=environment, input="0 1 a", wanted=0) == "a" * 7, "the standard input is not read")
-    run(*program, write(room / "wrong", "2 1 wrong"), env=environment, wanted=1)
+    for order, status in (("1 1 no", 1), ("2 1 wrong", 3), ("3 1 none", 2), ("5 0 ", 2), ("6 1 deep", 1), ("7 1 long", 1), ("9 1 odd", 2)):
+        run(*program, write(room / "order", order), env=environment, wanted=status)
+    order = write(room / "order", "0 1 abc")
     for words in ([], ["--library", room / "nothing.so", order], [room / "missing"], [room], ["--odd", order], ["--check", "--layout", order], ["--names", "--layout", order]):
         run(*program, *words, env=environment, wanted=2)
     with open("/dev/full", "w") as full:
@@ -403,7 +412,7 @@ def test_calls(folder, _):
 def test_own_calls(calls):
     """What is not proved but C: null pointers with a length of 0, names of statuses, limits."""
     needed = ctypes.c_size_t(77)
-    for name, flags in (("write", [0]), ("check", []), ("layout", [])):
+    for name, flags in (("write", [0]), ("check", []), ("layout", [0])):
         call = getattr(calls, f"yorwethul_{name}")
         told = call(None, ctypes.c_size_t(0), *map(ctypes.c_uint32, flags), None, ctypes.c_size_t(0), ctypes.byref(needed))
         must((told, needed.value) == (NO_MODULE, len("no JSON at line 1, column 0")), f"{name} of nothing: {told}, {needed.value}")
@@ -578,7 +587,7 @@ def test_memory(folder, _):
     library = Library(folder / "libyorwethul.so")
     for example in EXAMPLES:
         data = example.read_bytes()
-        for name, flags in (("write", [0]), ("write", [ALL_FLAGS]), ("layout", []), ("names", [0]), ("names", [ALL_FLAGS]), ("check", [])):
+        for name, flags in (("write", [0]), ("write", [ALL_FLAGS]), ("layout", [0]), ("layout", [ALL_FLAGS]), ("names", [0]), ("names", [ALL_FLAGS]), ("check", [])):
             status, text = library.call(name, data, *flags)
             length = len(text.encode())
             must(library.call(name, data, *flags, room=length) == (status, text), f"{name} of {example.name} with just enough")
@@ -593,13 +602,13 @@ def test_depth(folder, _):
         (b"[" * 128, TOO_DEEP), (b'{"a":' * 500_000, TOO_DEEP), (b"[" * 127, NO_MODULE), (b'["' + b"[" * 500 + b'"', NO_MODULE),
         (b'{"module": {}, "info": {}, "x": ' + b"[" * 126 + b"]" * 126 + b"}", DONE), (b"\xff", NO_MODULE), (b"", NO_MODULE), (b"\0" * 300, NO_MODULE),
     ):
-        for name, flags in (("write", [0]), ("check", []), ("layout", []), ("names", [0])):
+        for name, flags in (("write", [0]), ("check", []), ("layout", [0]), ("names", [0])):
             told = library.call(name, data, *flags)
             must(told[0] == wanted, f"{name}: {told} of {data[:40]}")
     for kind in KINDS:
         for depth in (DEEPEST_NESTING + 1, DEEPEST_NESTING + 2, 100_000):
             data = nested(kind, depth).encode()
-            for name, flags in (("write", [0]), ("check", []), ("layout", []), ("names", [0])):
+            for name, flags in (("write", [0]), ("check", []), ("layout", [0]), ("names", [0])):
                 told = library.call(name, data, *flags)
                 is_deep = levels(kind, depth) > DEEPEST_NESTING
                 is_told = told[0] == TOO_DEEP and told[1].startswith("nested too deep: ")

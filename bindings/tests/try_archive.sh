@@ -16,6 +16,7 @@ clean() {
 }
 clean "$prefix/bin/yorwethul" module.json >text
 [ -s text ]
+clean "$prefix/bin/yorwethul" --version | grep -q '^proved: '
 tried=program
 clean python3 "$prefix/share/yorwethul/python/yorwethul.py" --library "$prefix/lib/libyorwethul.so" module.json | cmp - text
 tried="$tried, Python"

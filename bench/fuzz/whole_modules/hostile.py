@@ -36,7 +36,7 @@ MARK = "\x01"
 NEVER_READ = ("cut off", "no module", "content after a name")
 # what is let be in a module, whatever stands in it
 LET_BE = re.compile(
-    r"\.(diagnostic_filters|diagnostic_filter_leaf|doc_comments|mesh_info\.(?!output_variable)\w+|RayQuery\.fun)\b")
+    r"\.(doc_comments|mesh_info\.(?!output_variable)\w+|RayQuery\.fun)\b")
 # what is told by its name alone is one of these
 VARIANTS = {name.split("::")[1] for name in EVERY if "::" in name}
 
@@ -83,7 +83,9 @@ def parts(known):
     """The module in parts, each of one member: the others may all be absent, and short texts are soon read. Beside it
     stands an empty one that is known, since the reader of an info asks for such a member."""
     for name, value in known["module"].items():
-        yield {"module": {"types": [], name: value}, "info": {}}
+        # the leaf is one of the filters
+        filters = {"diagnostic_filters": known["module"].get("diagnostic_filters", [])} if name == "diagnostic_filter_leaf" else {}
+        yield {"module": {"types": [], **filters, name: value}, "info": {}}
     for name, value in known["info"].items():
         yield {"module": {}, "info": {"functions": [], name: value}}
 
@@ -250,7 +252,9 @@ def judge_error(spoiled, error, tally):
         return
     where = relation(place or "", spoiled.place)
     tally.add(spoiled.what, kind, where)
-    if where == "elsewhere":
+    # a leaf, told after the filters, may be none of those that are left
+    is_leaf = place == "module.diagnostic_filter_leaf" and spoiled.place.startswith("module.diagnostic_filters")
+    if where == "elsewhere" and not is_leaf:
         tally.fault("another place", spoiled, error)
     elif where == "there" and kind in spoiled.never:
         tally.fault("no such problem", spoiled, error)

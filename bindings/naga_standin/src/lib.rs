@@ -3,6 +3,7 @@
 //! writes none; its validator finds the types of a few kinds of expressions and refuses nothing.
 #![allow(missing_docs)]
 
+pub mod diagnostic_filter;
 pub mod proc;
 pub mod valid;
 
@@ -10,6 +11,7 @@ mod arena;
 
 pub use arena::{Arena, FastIndexMap, Handle, Range, UniqueArena};
 
+use diagnostic_filter::DiagnosticFilterNode;
 use serde::Serialize;
 
 /// Bytes of the source.
@@ -261,7 +263,7 @@ pub struct Function {
     pub expressions: Arena<Expression>,
     pub named_expressions: FastIndexMap<Handle<Expression>, String>,
     pub body: Block,
-    pub diagnostic_filter_leaf: Option<Handle<()>>,
+    pub diagnostic_filter_leaf: Option<Handle<DiagnosticFilterNode>>,
 }
 
 #[derive(Clone, Copy, Debug, PartialEq, Eq, Hash, Serialize)]
@@ -329,8 +331,8 @@ pub struct Module {
     pub global_expressions: Arena<Expression>,
     pub functions: Arena<Function>,
     pub entry_points: Vec<EntryPoint>,
-    pub diagnostic_filters: Arena<()>,
-    pub diagnostic_filter_leaf: Option<Handle<()>>,
+    pub diagnostic_filters: Arena<DiagnosticFilterNode>,
+    pub diagnostic_filter_leaf: Option<Handle<DiagnosticFilterNode>>,
     pub doc_comments: Option<Box<()>>,
 }
 

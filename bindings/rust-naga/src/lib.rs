@@ -156,26 +156,26 @@ fn written(json: &str, flags: Flags) -> Result<String, Error> {
     })
 }
 
-/// Tells where the members of the module's structs stand in memory, on a thread of its own where [`write`]
-/// takes one.
+/// Tells where the members of the module's structs stand in memory, under the names of the text that the
+/// module has under these flags, on a thread of its own where [`write`] takes one.
 ///
 /// # Panics
 ///
 /// As [`write`].
-pub fn layout(module: &Module, info: &ModuleInfo) -> Result<String, Error> {
-    laid_out(&json(module, info)?)
+pub fn layout(module: &Module, info: &ModuleInfo, flags: Flags) -> Result<String, Error> {
+    laid_out(&json(module, info)?, flags)
 }
 
 /// Tells the same of a module alone.
-pub fn layout_module(module: &Module) -> Result<String, Error> {
-    laid_out(&module_json(module)?)
+pub fn layout_module(module: &Module, flags: Flags) -> Result<String, Error> {
+    laid_out(&module_json(module)?, flags)
 }
 
-fn laid_out(json: &str) -> Result<String, Error> {
+fn laid_out(json: &str, flags: Flags) -> Result<String, Error> {
     Ok(if json.len() <= LONGEST_HERE {
-        yorwethul::layout_json(json)?
+        yorwethul::layout_json(json, flags)?
     } else {
-        yorwethul::layout_json_on_thread(json)?
+        yorwethul::layout_json_on_thread(json, flags)?
     })
 }
 

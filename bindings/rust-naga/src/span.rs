@@ -32,6 +32,10 @@ pub fn span_of(module: &Module, position: Position) -> Option<Span> {
             span_in(function, position).unwrap_or(module.functions.get_span(handle))
         }
         Item::EntryPoint(index) => span_in(&module.entry_points.get(index)?.function, position)?,
+        Item::DiagnosticFilter(index) => {
+            let (handle, _) = module.diagnostic_filters.iter().nth(index)?;
+            module.diagnostic_filters.get_span(handle)
+        }
         _ => return None,
     };
     Some(span).filter(Span::is_defined)

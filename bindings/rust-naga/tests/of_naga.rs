@@ -1,6 +1,9 @@
 //! Modules of naga are written. The calls are naga's own: the same tests run against naga 30 and
 //! against the stand-in.
 
+use naga::diagnostic_filter::{
+    DiagnosticFilter, DiagnosticFilterNode, FilterableTriggeringRule, Severity,
+};
 use naga::valid::{Capabilities, ModuleInfo, ValidationFlags, Validator};
 use naga::{
     BinaryOperator, Expression, Function, FunctionArgument, FunctionResult, Handle, Literal,
@@ -88,7 +91,7 @@ fn a_module_alone_is_written() {
         write_module(&module, flags),
         write(&module, &known(&module), flags)
     );
-    assert_eq!(layout_module(&module).as_deref(), Ok(""));
+    assert_eq!(layout_module(&module, Flags::default()).as_deref(), Ok(""));
     let named = names(&module, &known(&module), flags).unwrap();
     assert!(named.contains("{\"handle\":0,\"identifier\":\"double\",\"label\":\"double\"}"));
     assert_eq!(names_module(&module, flags), Ok(named));
@@ -202,6 +205,28 @@ fn a_refusal_tells_the_construct_and_its_position() {
 }
 
 #[test]
+fn a_filter_without_a_name_is_refused_at_its_span() {
+    let mut module = double();
+    let filter = DiagnosticFilterNode {
+        inner: DiagnosticFilter {
+            new_severity: Severity::Off,
+            triggering_rule: FilterableTriggeringRule::Unknown("no name".into()),
+        },
+        parent: None,
+    };
+    let filter = module.diagnostic_filters.append(filter, Span::new(3, 9));
+    module.diagnostic_filter_leaf = Some(filter);
+    assert!(write_module(&module, Flags::empty()).is_ok());
+    let error = write_module(&module, Flags::PORTABLE).unwrap_err();
+    assert_eq!(error.span(&module), Some(Span::new(3, 9)));
+    let Error::Yorwethul(error) = error else {
+        panic!("{error}")
+    };
+    assert_eq!(error.construct_kind(), Some(Construct::DiagnosticRule));
+    assert_eq!(error.position(), Some("module.diagnostic_filters[0]"));
+}
+
+#[test]
 fn an_info_of_another_module_is_not_accepted() {
     let mut module = double();
     let other = known(&module);
@@ -240,7 +265,7 @@ fn layouts_are_told() {
         },
         SPAN,
     );
-    let told = layout(&module, &known(&module)).unwrap();
+    let told = layout(&module, &known(&module), Flags::default()).unwrap();
     assert_eq!(
         told,
         "struct One: align 4, size 4\n    a: i32, offset 0, align 4, size 4\n"
@@ -273,7 +298,7 @@ fn deep_operands_take_a_thread() {
     let info = known(&module);
     let text = write(&module, &info, Flags::empty()).unwrap();
     assert_eq!(text.matches("-(").count(), depth);
-    assert_eq!(layout(&module, &info).as_deref(), Ok(""));
+    assert_eq!(layout(&module, &info, Flags::default()).as_deref(), Ok(""));
 }
 
 /// Stages, of which naga's own may have more fields.

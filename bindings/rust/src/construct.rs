@@ -53,10 +53,12 @@ pub enum Construct {
     FullNamer,
     /// A member, an argument or an entry point after the last that can be told.
     NameKey,
+    /// A filter of diagnostics whose rule has a name that is none in WGSL, with [`crate::Flags::PORTABLE`].
+    DiagnosticRule,
 }
 
 /// The words of each kind. Those of the first four are followed by a value: `Unsupported math function: Inverse`.
-const WORDS: [(&str, Construct); 24] = [
+const WORDS: [(&str, Construct); 25] = [
     ("Unsupported math function", Construct::MathFunction),
     (
         "Unsupported relational function",
@@ -87,6 +89,10 @@ const WORDS: [(&str, Construct); 24] = [
     ("array stride", Construct::ArrayStride),
     ("namer is full", Construct::FullNamer),
     ("name key out of range", Construct::NameKey),
+    (
+        "diagnostic rule without a WGSL name",
+        Construct::DiagnosticRule,
+    ),
 ];
 
 impl Construct {

@@ -6,7 +6,8 @@ use core::fmt;
 #[derive(Clone, Debug, PartialEq, Eq)]
 #[non_exhaustive]
 pub enum Error {
-    /// The module is accepted, and has a construct that is not written.
+    /// The module is accepted, and has a construct, or a rule of a filter of diagnostics, that is not
+    /// written.
     #[non_exhaustive]
     Refused {
         /// The construct: `float literal`.

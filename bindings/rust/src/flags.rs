@@ -18,7 +18,8 @@ impl Flags {
     pub const EXPLICIT_TYPES: Flags = Flags(crate::sys::EXPLICIT_TYPES);
 
     /// The text has what standard compilers ask for, as `enable subgroups;` where something of
-    /// subgroups stands in it.
+    /// subgroups stands in it, and begins with the directives of the module's filters of
+    /// diagnostics.
     pub const PORTABLE: Flags = Flags(crate::sys::PORTABLE);
 
     /// Floats are written, by the digits that Rust's formatting gives them, and names may end in

@@ -32,9 +32,9 @@
 //! # What is proved
 //!
 //! The archive is a library in Rattle, Rust with contracts, in which every function is proved: each
-//! call ends, keeps to its memory, and gives a text that does what the module does, or one of the
-//! errors. That the module is what the JSON says is tested and not proved, and so is this crate,
-//! which is Rust. Its page is `docs/LIBRARY.md` in Yorwethul's repository.
+//! call ends, keeps to its memory, reads the module that the JSON says, and gives a text that does
+//! what the module does, or one of the errors. This crate, which is Rust, is tested and not proved.
+//! Its page is `docs/LIBRARY.md` in Yorwethul's repository.
 //!
 //! # The stack
 //!
@@ -145,7 +145,7 @@ pub fn check_json(json: &str) -> Result<(), Error> {
 }
 
 /// Tells where the members of the module's structs stand in memory, a line for each struct and each
-/// member.
+/// member, under the names of the text that the module has under these flags.
 ///
 /// Deep operands take much stack: see [`layout_json_on_thread`].
 ///
@@ -158,17 +158,18 @@ pub fn check_json(json: &str) -> Result<(), Error> {
 ///     ]},
 ///     "info": {}
 /// }"#;
-/// let told = yorwethul::layout_json(json)?;
+/// let told = yorwethul::layout_json(json, yorwethul::Flags::default())?;
 /// assert_eq!(told, "struct Count: align 4, size 4\n    value: u32, offset 0, align 4, size 4\n");
 /// # Ok::<(), yorwethul::Error>(())
 /// ```
-pub fn layout_json(json: &str) -> Result<String, Error> {
+pub fn layout_json(json: &str, flags: Flags) -> Result<String, Error> {
     text_of(json.len(), |out, needed| {
         // SAFETY: as in `write_json`.
         unsafe {
             sys::yorwethul_layout(
                 json.as_ptr(),
                 json.len(),
+                flags.bits(),
                 out.as_mut_ptr(),
                 out.len(),
                 needed,
@@ -223,8 +224,8 @@ pub fn check_json_on_thread(json: &str) -> Result<(), Error> {
 
 /// [`layout_json`] on a thread of its own, whose stack is enough for the JSON.
 #[cfg(feature = "std")]
-pub fn layout_json_on_thread(json: &str) -> Result<String, Error> {
-    on_thread(json, || layout_json(json))
+pub fn layout_json_on_thread(json: &str, flags: Flags) -> Result<String, Error> {
+    on_thread(json, || layout_json(json, flags))
 }
 
 /// [`names_json`] on a thread of its own, whose stack is enough for the JSON.
@@ -354,7 +355,7 @@ fn refused_at(text: &str) -> (String, String, Option<String>, Option<String>) {
 
 /// What the position of a refusal begins with: the module, or where that is all of the JSON, one of
 /// its lists.
-const BEGINNINGS: [&str; 7] = [
+const BEGINNINGS: [&str; 8] = [
     "module",
     "types[",
     "constants[",
@@ -362,6 +363,7 @@ const BEGINNINGS: [&str; 7] = [
     "global_variables[",
     "functions[",
     "entry_points[",
+    "diagnostic_filters[",
 ];
 
 /// Where the colon in front of a position stands, if there is a position.

@@ -32,6 +32,8 @@ pub enum Item {
     Function(usize),
     /// An entry point.
     EntryPoint(usize),
+    /// A filter of diagnostics.
+    DiagnosticFilter(usize),
 }
 
 /// A part of a function or an entry point, with its handle or its number.
@@ -83,7 +85,7 @@ impl Position {
 
 /// The item that a path begins with, and the rest of the path.
 fn item(path: &str) -> Option<(Item, &str)> {
-    let kinds: [(&str, fn(usize) -> Item); 7] = [
+    let kinds: [(&str, fn(usize) -> Item); 8] = [
         ("types", Item::Type),
         ("constants", Item::Constant),
         ("overrides", Item::Override),
@@ -91,6 +93,7 @@ fn item(path: &str) -> Option<(Item, &str)> {
         ("global_expressions", Item::GlobalExpression),
         ("functions", Item::Function),
         ("entry_points", Item::EntryPoint),
+        ("diagnostic_filters", Item::DiagnosticFilter),
     ];
     kinds.iter().find_map(|(list, item)| {
         let (index, rest) = indexed(path, list)?;

@@ -19,6 +19,7 @@ extern "C" {
     pub fn yorwethul_layout(
         json: *const u8,
         json_length: usize,
+        flags: u32,
         out: *mut u8,
         out_length: usize,
         needed: *mut usize,

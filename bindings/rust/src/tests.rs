@@ -360,6 +360,12 @@ fn positions_are_told_in_fields() {
             Some(0),
         ),
         ("module.entry_points[0]", Item::EntryPoint(0), None, None),
+        (
+            "diagnostic_filters[2]",
+            Item::DiagnosticFilter(2),
+            None,
+            None,
+        ),
     ] {
         let position = Position {
             item,
@@ -380,6 +386,11 @@ fn positions_are_told_in_fields() {
     }
     let error = super::tests::told(sys::REFUSED, "float literal: module.types[3]").unwrap_err();
     assert_eq!(error.place().map(|place| place.item), Some(Item::Type(3)));
+    let text = "diagnostic rule without a WGSL name: diagnostic_filters[2]";
+    let error = super::tests::told(sys::REFUSED, text).unwrap_err();
+    assert_eq!(error.construct_kind(), Some(Construct::DiagnosticRule));
+    let item = error.place().map(|place| place.item);
+    assert_eq!(item, Some(Item::DiagnosticFilter(2)));
 }
 
 #[test]

@@ -5,7 +5,7 @@ use yorwethul::{check_json, layout_json, library_version, names_json, stack_size
 use yorwethul::{
     check_json_on_thread, layout_json_on_thread, names_json_on_thread, write_json_on_thread,
 };
-use yorwethul::{Error, Flags};
+use yorwethul::{Construct, Error, Flags, Item};
 
 const DOUBLE: &str = r#"{
     "module": {
@@ -56,7 +56,7 @@ fn a_module_is_written() {
     let explicit = TEXT.replace("let sum =", "let sum: i32 =");
     assert_eq!(write_json(DOUBLE, Flags::EXPLICIT_TYPES), Ok(explicit));
     assert_eq!(check_json(DOUBLE), Ok(()));
-    assert_eq!(layout_json(DOUBLE).as_deref(), Ok(""));
+    assert_eq!(layout_json(DOUBLE, Flags::default()).as_deref(), Ok(""));
     assert_eq!(names_json(DOUBLE, Flags::empty()).as_deref(), Ok(NAMES));
 }
 
@@ -76,7 +76,7 @@ fn a_module_alone_is_written() {
     for json in alone() {
         assert_eq!(write_json(&json, Flags::empty()).as_deref(), Ok(TEXT));
         assert_eq!(check_json(&json), Ok(()));
-        assert_eq!(layout_json(&json).as_deref(), Ok(""));
+        assert_eq!(layout_json(&json, Flags::default()).as_deref(), Ok(""));
         let odd = json.replace("\"left\": 0", "\"left\": 1");
         let error = write_json(&odd, Flags::empty()).unwrap_err();
         let position = error.position().unwrap();
@@ -141,12 +141,42 @@ fn a_refused_module_tells_the_construct_and_its_position() {
 }
 
 #[test]
+fn a_filter_without_a_name_is_refused() {
+    let bare = r#"{
+        "functions": [{"name": "f"}],
+        "diagnostic_filters": [{"parent": null, "inner": {
+            "new_severity": "Off", "triggering_rule": {"Unknown": "no name"}}}],
+        "diagnostic_filter_leaf": 0
+    }"#;
+    let plain = write_json(bare, Flags::empty());
+    assert_eq!(plain.as_deref(), Ok("fn f() {\n}\n\n"));
+    for (json, position) in [
+        (bare.to_string(), "diagnostic_filters[0]"),
+        (
+            format!("{{\"module\": {bare}}}"),
+            "module.diagnostic_filters[0]",
+        ),
+    ] {
+        let error = write_json(&json, Flags::PORTABLE).unwrap_err();
+        assert_eq!(error.construct_kind(), Some(Construct::DiagnosticRule));
+        assert_eq!(error.position(), Some(position));
+        let item = error.place().map(|place| place.item);
+        assert_eq!(item, Some(Item::DiagnosticFilter(0)));
+    }
+    let named = bare.replace("no name", "lint");
+    assert_eq!(
+        write_json(&named, Flags::PORTABLE).as_deref(),
+        Ok("diagnostic(off, lint);\n\nfn f() {\n}\n\n")
+    );
+}
+
+#[test]
 fn a_module_that_is_not_accepted_tells_the_position() {
     let odd = DOUBLE.replace("\"left\": 0", "\"left\": 1");
     for error in [
         write_json(&odd, Flags::empty()).unwrap_err(),
         check_json(&odd).unwrap_err(),
-        layout_json(&odd).unwrap_err(),
+        layout_json(&odd, Flags::default()).unwrap_err(),
     ] {
         assert!(matches!(error, Error::NotAccepted { .. }), "{error}");
         assert_eq!(error.position(), Some("module.functions[0].expressions[1]"));
@@ -218,7 +248,7 @@ fn deep_operands_take_a_stack() {
     let text = write_json_on_thread(&json, Flags::empty()).unwrap();
     assert_eq!(text.matches("-(").count(), 3_999);
     assert_eq!(check_json_on_thread(&json), Ok(()));
-    assert_eq!(layout_json_on_thread(&json).as_deref(), Ok(""));
+    assert_eq!(layout_json_on_thread(&json, Flags::default()).as_deref(), Ok(""));
     let names = names_json_on_thread(&json, Flags::empty()).unwrap();
     assert_eq!(names, NAMES.replace("double", "deep"));
     assert!(stack_size(&json) <= STACK);

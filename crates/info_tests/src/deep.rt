@@ -83,9 +83,11 @@ fn deep_operands_are_bound(rt: HostRuntime) {
     add_long_sum(alloc, &mut module, 299).expect(&rt, "memory");
     add_long_sum(alloc, &mut module, MOST_LEVELS).expect(&rt, "memory");
     let mut info = counted(&rt, alloc, &module);
-    if bind_deep_operands(alloc, &mut info, &module).is_err() {
-        bind_deep_operands(alloc, &mut info, &module).expect(&rt, "memory");
-    }
+    let raises = match bind_deep_operands(alloc, &mut info, &module) {
+        Ok(raises) => raises,
+        Err(_) => bind_deep_operands(alloc, &mut info, &module).expect(&rt, "memory"),
+    };
+    assert!(rt; raises);
     match info.functions.as_slice() {
         [long, short] => {
             assert_eq!(rt; number_bound(&rt, long), 4);
@@ -93,4 +95,14 @@ fn deep_operands_are_bound(rt: HostRuntime) {
         }
         _ => panic!(rt; "two functions"),
     }
+}
+
+/// Of a short sum alone no count is raised.
+#[test]
+fn shallow_operands_are_left(rt: HostRuntime) {
+    let alloc = rt.alloc();
+    let mut module = Module::new(alloc);
+    add_long_sum(alloc, &mut module, MOST_LEVELS).expect(&rt, "memory");
+    let mut info = counted(&rt, alloc, &module);
+    assert!(rt; !bind_deep_operands(alloc, &mut info, &module).expect(&rt, "memory"));
 }

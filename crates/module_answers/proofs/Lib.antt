@@ -1,3 +1,6 @@
 mod Alone
 pub mod Bounded
 mod Wants
+mod RaisedCounts
+mod Openings
+pub mod StandardNames

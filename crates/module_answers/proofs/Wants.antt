@@ -22,9 +22,41 @@ use Rattle.naga_wgsl_out.specs.Writing.{AppendsItsText, written_text}
 use Rattle.naga_wgsl_out.specs.declared.unwritable.Refusal.{Refusal}
 use Rattle.naga_refusals.specs.declared.error.Error.TheVariants as error
 use Rattle.naga_wgsl_out.specs.Within.{unfailed}
-use Rattle.decimal_floats.specs.Decimals.{IsDecimalThroughout}
-use Rattle.module_answers.specs.Wants.{IsAnswerOrMemory, IsDecimalUnlessWanting}
+use Rattle.module_answers.specs.Counts.{IsReady}
+use Rattle.module_answers.specs.Wants.{IsAnswerOrMemory, UnlessWanting}
 use Rattle.module_answers.specs.WriteOutcomes.{AnswersWriting, TellsBeside}
+
+-- ---- what is so unless memory was wanting
+pub anyway : (answer : Result Unit Error) (P : Type 0) → P → UnlessWanting answer P
+anyway (Ok x) P holds = holds
+anyway (Err (error.Memory e)) P holds = tt
+anyway (Err (error.FmtError e)) P holds = holds
+anyway (Err (error.Custom e)) P holds = holds
+anyway (Err (error.Unimplemented e)) P holds = holds
+anyway (Err (error.UnsupportedRelationalFunction e)) P holds = holds
+anyway (Err (error.Unsupported kind value)) P holds = holds
+
+-- nothing is written where memory was refused before
+pub unless_before : (ready : Result Unit AllocError) (answer : Result Unit Error) (P : Type 0) → OnOk ready P →
+    IfErr ready (λ e. answer ≡ Err (Memory e)) → UnlessWanting answer P
+unless_before (Ok x) answer P holds is = anyway answer P holds
+unless_before (Err e) answer P holds is = subst (λ a. UnlessWanting a P) (sym is) tt
+
+-- a sink that has not failed tells no other want
+pub unfailed_unless : (answer : Result Unit Error) (P : Type 0) → UnlessWanting answer P →
+    UnlessWanting (unfailed answer) P
+unfailed_unless (Ok x) P holds = holds
+unfailed_unless (Err (error.Memory e)) P holds = tt
+unfailed_unless (Err (error.FmtError e)) P holds = tt
+unfailed_unless (Err (error.Custom e)) P holds = holds
+unfailed_unless (Err (error.Unimplemented e)) P holds = holds
+unfailed_unless (Err (error.UnsupportedRelationalFunction e)) P holds = holds
+unfailed_unless (Err (error.Unsupported kind value)) P holds = holds
+
+pub ready_unfailed : (flags : WriterFlags) (answer : Result Unit Error) (m : Module) (old new : ModuleInfo) →
+    IsReady flags answer m old new → IsReady flags (unfailed answer) m old new
+ready_unfailed flags answer m old new ready =
+    record { raised = ready.raised; counted = unfailed_unless answer _ ready.counted }
 
 -- ---- what is told beside an answer
 -- what is found is told beside an error that tells of the module, of which something is the reason
@@ -127,24 +159,3 @@ module _ (flags : WriterFlags) (m : Module) (info : ModuleInfo) (content now : L
         leaves = subst (λ r. Leaves flags m info r content now before after) back (want_leaves alloc_error left);
         refusal = beside;
       }
-
--- ---- floats that are decimal
-pub decimal_anyway : (answer : Result Unit Error) (m : Module) → IsDecimalThroughout m → IsDecimalUnlessWanting answer m
-decimal_anyway (Err (Memory e)) m decimal = tt
-decimal_anyway (Ok x) m decimal = decimal
-decimal_anyway (Err (error.FmtError e)) m decimal = decimal
-decimal_anyway (Err (error.Custom text)) m decimal = decimal
-decimal_anyway (Err (error.Unimplemented text)) m decimal = decimal
-decimal_anyway (Err (error.UnsupportedRelationalFunction fun)) m decimal = decimal
-decimal_anyway (Err (error.Unsupported kind value)) m decimal = decimal
-
--- also where a failure of the sink is told as want of memory
-pub decimal_unfailed : (answer : Result Unit Error) (m : Module) → IsDecimalUnlessWanting answer m →
-    IsDecimalUnlessWanting (unfailed answer) m
-decimal_unfailed (Err (Memory e)) m decimal = tt
-decimal_unfailed (Ok x) m decimal = decimal
-decimal_unfailed (Err (error.FmtError e)) m decimal = tt
-decimal_unfailed (Err (error.Custom text)) m decimal = decimal
-decimal_unfailed (Err (error.Unimplemented text)) m decimal = decimal
-decimal_unfailed (Err (error.UnsupportedRelationalFunction fun)) m decimal = decimal
-decimal_unfailed (Err (error.Unsupported kind value)) m decimal = decimal

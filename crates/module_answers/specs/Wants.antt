@@ -11,7 +11,11 @@ abbrev pub IsAnswerOrMemory : (answer told : Result Unit Error) → Type 0
 IsAnswerOrMemory answer told =
     (told ≡ answer) ⊎ (IsErrAnd answer TellsOfModule × (told ≡ Err (Memory alloc_error)))
 
+-- so it is, unless this answer tells that memory was wanting
+abbrev pub UnlessWanting : (answer : Result Unit Error) → Type 0 → Type 0
+UnlessWanting (Err (Memory error)) P = ⊤
+UnlessWanting _ P = P
+
 -- each finite float of the module has a numeral, unless memory was wanting
 abbrev pub IsDecimalUnlessWanting : (answer : Result Unit Error) → Module → Type 0
-IsDecimalUnlessWanting (Err (Memory error)) m = ⊤
-IsDecimalUnlessWanting _ m = IsDecimalThroughout m
+IsDecimalUnlessWanting answer m = UnlessWanting answer (IsDecimalThroughout m)

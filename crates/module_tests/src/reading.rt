@@ -17,7 +17,7 @@ const READINGS: &[(&str, &str, &str)] = &[
         "{}",
         "Literal(F32(1266679808))",
     ),
-    // the double that this text is read as is halfway to the next number of four bytes
+    // the double nearest to this number is halfway to the next number of four bytes
     (
         r#"{"global_expressions": [{"Literal": {"F32": 7.038531e-26}}]}"#,
         "{}",
@@ -108,21 +108,37 @@ const READINGS: &[(&str, &str, &str)] = &[
         "{}",
         "[Break]",
     ),
+    // filters of diagnostics, each after its parent, with the leaf that a function may tell again
+    (
+        r#"{"diagnostic_filters": [
+            {"inner": {"new_severity": "Off", "triggering_rule": {"Standard": "DerivativeUniformity"}}, "parent": null},
+            {"inner": {"new_severity": "Warning", "triggering_rule": {"User": ["naga", "lint"]}}, "parent": 0}],
+            "diagnostic_filter_leaf": 1,
+            "functions": [{"diagnostic_filter_leaf": 1}, {"diagnostic_filter_leaf": null}]}"#,
+        "{}",
+        "diagnostic_filters: Arena { items: [\
+         DiagnosticFilterNode { inner: DiagnosticFilter { new_severity: Off, \
+         triggering_rule: Standard(DerivativeUniformity) }, parent: None }, \
+         DiagnosticFilterNode { inner: DiagnosticFilter { new_severity: Warning, \
+         triggering_rule: User([\"naga\", \"lint\"]) }, \
+         parent: Some(ItemIndex { index: 0, mark: PhantomData<_> }) }] }, \
+         diagnostic_filter_leaf: Some(ItemIndex { index: 1, mark: PhantomData<_> })",
+    ),
+    (
+        r#"{"diagnostic_filters": [
+            {"inner": {"new_severity": {"Info": null}, "triggering_rule": {"Unknown": "spelling"}}}]}"#,
+        "{}",
+        "new_severity: Info, triggering_rule: Unknown(\"spelling\") }, parent: None",
+    ),
 ];
 
 /// The text of a module that says what is let be, or that a stage has none of what it could have,
 /// an info's, and a part of how what is read is printed.
 const LET_BE: &[(&str, &str, &str)] = &[
     (
-        r#"{"diagnostic_filters": [{"inner": {"new_severity": "Off"}, "parent": null}],
-            "diagnostic_filter_leaf": 0, "doc_comments": {"module": ["A shader."]}}"#,
+        r#"{"doc_comments": {"module": ["A shader."]}}"#,
         "{}",
         "entry_points: []",
-    ),
-    (
-        r#"{"functions": [{"body": ["Kill"], "diagnostic_filter_leaf": 0}]}"#,
-        "{}",
-        "[Kill]",
     ),
     (
         r#"{"special_types": {"ray_desc": 0, "ray_intersection": 1, "ray_vertex_return": 2}}"#,

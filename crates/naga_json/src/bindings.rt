@@ -1,7 +1,17 @@
 //! Bindings.
 
+ghost use Rattle.json.specs.Value.{value_view};
+ghost use Rattle.naga_json.specs.Bindings.{built_in_names, builtin_position_said};
+ghost use Rattle.naga_json.specs.Bindings.{builtin_barycentric_said, built_in_payload};
+ghost use Rattle.naga_json.specs.Bindings.{built_in_said, interpolation_said, sampling_said};
+ghost use Rattle.naga_json.specs.Bindings.{binding_names, location_binding_said, binding_payload};
+ghost use Rattle.naga_json.specs.Bindings.{binding_said, resource_binding_said};
+ghost use Rattle.naga_json.specs.Said.{Gives, same};
+
 use crate::error::ReadError;
-use crate::shape::{FromJson, Variants, expect_members, member, read_variant, unit, word};
+use crate::shape::{
+    FromJson, Variants, expect_members, member, optional_member, read_variant, unit, word,
+};
 use json::Value;
 use naga_ir::{Binding, BuiltIn, Interpolation, ResourceBinding, Sampling};
 use std::alloc::Global;
@@ -101,6 +111,12 @@ const BUILT_IN_NAMES: &[(&str, BuiltInName)] = &[
 ];
 
 impl FromJson for BuiltIn {
+    ghost Seen = { Self };
+
+    ghost seen = { same };
+
+    ghost said = { built_in_said };
+
     fn from_json(alloc: Global, value: &Value) -> Result<BuiltIn, ReadError> {
         read_variant(alloc, value)
     }
@@ -108,6 +124,14 @@ impl FromJson for BuiltIn {
 
 impl Variants for BuiltIn {
     type Name = BuiltInName;
+
+    ghost Sight = { Self };
+
+    ghost sight = { same };
+
+    ghost table = { built_in_names };
+
+    ghost payload_said = { built_in_payload };
 
     fn names() -> &'static [(&'static str, BuiltInName)] {
         BUILT_IN_NAMES
@@ -126,17 +150,21 @@ impl Variants for BuiltIn {
     }
 }
 
-fn builtin_position(alloc: Global, payload: &Value) -> Result<BuiltIn, ReadError> {
+fn builtin_position(alloc: Global, payload: &Value) -> Result<BuiltIn, ReadError>
+    ensures { Gives same (builtin_position_said (value_view payload.now)) result }
+{
     expect_members(alloc, payload, &["invariant"])?;
     Ok(BuiltIn::Position {
-        invariant: member(alloc, payload, "invariant")?,
+        invariant: optional_member(alloc, payload, "invariant")?,
     })
 }
 
-fn builtin_barycentric(alloc: Global, payload: &Value) -> Result<BuiltIn, ReadError> {
+fn builtin_barycentric(alloc: Global, payload: &Value) -> Result<BuiltIn, ReadError>
+    ensures { Gives same (builtin_barycentric_said (value_view payload.now)) result }
+{
     expect_members(alloc, payload, &["perspective"])?;
     Ok(BuiltIn::Barycentric {
-        perspective: member(alloc, payload, "perspective")?,
+        perspective: optional_member(alloc, payload, "perspective")?,
     })
 }
 
@@ -149,6 +177,12 @@ const INTERPOLATION_WORDS: &[(&str, Interpolation)] = &[
 ];
 
 impl FromJson for Interpolation {
+    ghost Seen = { Self };
+
+    ghost seen = { same };
+
+    ghost said = { interpolation_said };
+
     fn from_json(alloc: Global, value: &Value) -> Result<Interpolation, ReadError> {
         word(alloc, value, INTERPOLATION_WORDS)
     }
@@ -164,6 +198,12 @@ const SAMPLING_WORDS: &[(&str, Sampling)] = &[
 ];
 
 impl FromJson for Sampling {
+    ghost Seen = { Self };
+
+    ghost seen = { same };
+
+    ghost said = { sampling_said };
+
     fn from_json(alloc: Global, value: &Value) -> Result<Sampling, ReadError> {
         word(alloc, value, SAMPLING_WORDS)
     }
@@ -183,6 +223,12 @@ const BINDING_NAMES: &[(&str, BindingName)] = &[
 ];
 
 impl FromJson for Binding {
+    ghost Seen = { Self };
+
+    ghost seen = { same };
+
+    ghost said = { binding_said };
+
     fn from_json(alloc: Global, value: &Value) -> Result<Binding, ReadError> {
         read_variant(alloc, value)
     }
@@ -190,6 +236,14 @@ impl FromJson for Binding {
 
 impl Variants for Binding {
     type Name = BindingName;
+
+    ghost Sight = { Self };
+
+    ghost sight = { same };
+
+    ghost table = { binding_names };
+
+    ghost payload_said = { binding_payload };
 
     fn names() -> &'static [(&'static str, BindingName)] {
         BINDING_NAMES
@@ -207,7 +261,9 @@ impl Variants for Binding {
     }
 }
 
-fn location_binding(alloc: Global, payload: &Value) -> Result<Binding, ReadError> {
+fn location_binding(alloc: Global, payload: &Value) -> Result<Binding, ReadError>
+    ensures { Gives same (location_binding_said (value_view payload.now)) result }
+{
     expect_members(
         alloc,
         payload,
@@ -221,14 +277,20 @@ fn location_binding(alloc: Global, payload: &Value) -> Result<Binding, ReadError
     )?;
     Ok(Binding::Location {
         location: member(alloc, payload, "location")?,
-        interpolation: member(alloc, payload, "interpolation")?,
-        sampling: member(alloc, payload, "sampling")?,
-        blend_src: member(alloc, payload, "blend_src")?,
-        per_primitive: member(alloc, payload, "per_primitive")?,
+        interpolation: optional_member(alloc, payload, "interpolation")?,
+        sampling: optional_member(alloc, payload, "sampling")?,
+        blend_src: optional_member(alloc, payload, "blend_src")?,
+        per_primitive: optional_member(alloc, payload, "per_primitive")?,
     })
 }
 
 impl FromJson for ResourceBinding {
+    ghost Seen = { Self };
+
+    ghost seen = { same };
+
+    ghost said = { resource_binding_said };
+
     fn from_json(alloc: Global, payload: &Value) -> Result<ResourceBinding, ReadError> {
         expect_members(alloc, payload, &["group", "binding"])?;
         Ok(ResourceBinding {

@@ -1,21 +1,37 @@
 //! Functions, and what modules declare.
 
-use crate::error::{JsonKind, Problem, ReadError};
+ghost use Rattle.std.specs.Prelude.{◌≡◌, ℕ, List, IfOk, Some};
+ghost use Rattle.json.specs.Value.{value_view};
+ghost use Rattle.naga_json.specs.Declarations.{shader_stage_said, constant_said, override_said};
+ghost use Rattle.naga_json.specs.Declarations.{global_variable_said, local_variable_said};
+ghost use Rattle.naga_json.specs.Declarations.{function_argument_said, function_result_said};
+ghost use Rattle.naga_json.specs.Declarations.{mesh_stage_info_said};
+ghost use Rattle.naga_json.specs.Diagnostics.{filters_said};
+ghost use Rattle.naga_json.specs.Functions.{SeenEntryPoint, SeenFunction, entry_point_said};
+ghost use Rattle.naga_json.specs.Functions.{function_members, function_said, no_function};
+ghost use Rattle.naga_json.specs.Functions.{seen_entry_point, seen_function};
+ghost use Rattle.naga_json.specs.Modules.{SeenModule, module_members, module_said, no_module};
+ghost use Rattle.naga_json.specs.Modules.{seen_module};
+ghost use Rattle.naga_json.specs.Numbers.{unsigned_said};
+ghost use Rattle.naga_json.specs.Said.{Gives, same, tuple_said};
+ghost use Rattle.naga_json.specs.Seen.{SeenArgument, SeenConstant, SeenGlobal, SeenLocal};
+ghost use Rattle.naga_json.specs.Seen.{SeenOverride, filters_of, seen_argument, seen_constant};
+ghost use Rattle.naga_json.specs.Seen.{seen_global, seen_local, seen_override};
+
+use crate::diagnostics::filters_of;
+use crate::error::{Problem, ReadError};
 use crate::let_be;
 use crate::shape::{
-    FromJson, expect_members, expect_members_beside, expect_null, fill, in_item, in_member,
-    item_of, items_of, member, members_of, mistyped, word,
+    FromJson, expect_members, expect_members_beside, expect_null, fill, in_member, item_of,
+    items_of, member, optional_member, word,
 };
-use crate::sizes::{expect_size_expressions, fill_size_overrides};
-use indexmap::IndexMap;
+use crate::sizes::{fill_size_overrides, size_expressions};
 use json::Value;
 use naga_ir::{
-    Constant, EntryPoint, Expression, Function, FunctionArgument, FunctionResult, GlobalVariable,
-    Handle, ItemIndex, LocalVariable, MeshStageInfo, Module, Override, PredeclaredType,
-    ShaderStage, SpecialTypes, Type_,
+    Constant, EntryPoint, Function, FunctionArgument, FunctionResult, GlobalVariable,
+    LocalVariable, MeshStageInfo, Module, Override, ShaderStage,
 };
 use std::alloc::Global;
-use std::collections::BTreeMap;
 
 /// The words of [`ShaderStage`].
 const SHADER_STAGE_WORDS: &[(&str, ShaderStage)] = &[
@@ -31,16 +47,28 @@ const SHADER_STAGE_WORDS: &[(&str, ShaderStage)] = &[
 ];
 
 impl FromJson for ShaderStage {
+    ghost Seen = { Self };
+
+    ghost seen = { same };
+
+    ghost said = { shader_stage_said };
+
     fn from_json(alloc: Global, value: &Value) -> Result<ShaderStage, ReadError> {
         word(alloc, value, SHADER_STAGE_WORDS)
     }
 }
 
 impl FromJson for Constant {
+    ghost Seen = { SeenConstant };
+
+    ghost seen = { seen_constant };
+
+    ghost said = { constant_said };
+
     fn from_json(alloc: Global, payload: &Value) -> Result<Constant, ReadError> {
         expect_members(alloc, payload, &["name", "ty", "init"])?;
         Ok(Constant {
-            name: member(alloc, payload, "name")?,
+            name: optional_member(alloc, payload, "name")?,
             ty: member(alloc, payload, "ty")?,
             init: member(alloc, payload, "init")?,
         })
@@ -48,18 +76,30 @@ impl FromJson for Constant {
 }
 
 impl FromJson for Override {
+    ghost Seen = { SeenOverride };
+
+    ghost seen = { seen_override };
+
+    ghost said = { override_said };
+
     fn from_json(alloc: Global, payload: &Value) -> Result<Override, ReadError> {
         expect_members(alloc, payload, &["name", "id", "ty", "init"])?;
         Ok(Override {
-            name: member(alloc, payload, "name")?,
-            id: member(alloc, payload, "id")?,
+            name: optional_member(alloc, payload, "name")?,
+            id: optional_member(alloc, payload, "id")?,
             ty: member(alloc, payload, "ty")?,
-            init: member(alloc, payload, "init")?,
+            init: optional_member(alloc, payload, "init")?,
         })
     }
 }
 
 impl FromJson for GlobalVariable {
+    ghost Seen = { SeenGlobal };
+
+    ghost seen = { seen_global };
+
+    ghost said = { global_variable_said };
+
     fn from_json(alloc: Global, payload: &Value) -> Result<GlobalVariable, ReadError> {
         expect_members(
             alloc,
@@ -74,49 +114,73 @@ impl FromJson for GlobalVariable {
             ],
         )?;
         Ok(GlobalVariable {
-            name: member(alloc, payload, "name")?,
+            name: optional_member(alloc, payload, "name")?,
             space: member(alloc, payload, "space")?,
-            binding: member(alloc, payload, "binding")?,
+            binding: optional_member(alloc, payload, "binding")?,
             ty: member(alloc, payload, "ty")?,
-            init: member(alloc, payload, "init")?,
-            memory_decorations: member(alloc, payload, "memory_decorations")?,
+            init: optional_member(alloc, payload, "init")?,
+            memory_decorations: optional_member(alloc, payload, "memory_decorations")?,
         })
     }
 }
 
 impl FromJson for LocalVariable {
+    ghost Seen = { SeenLocal };
+
+    ghost seen = { seen_local };
+
+    ghost said = { local_variable_said };
+
     fn from_json(alloc: Global, payload: &Value) -> Result<LocalVariable, ReadError> {
         expect_members(alloc, payload, &["name", "ty", "init"])?;
         Ok(LocalVariable {
-            name: member(alloc, payload, "name")?,
+            name: optional_member(alloc, payload, "name")?,
             ty: member(alloc, payload, "ty")?,
-            init: member(alloc, payload, "init")?,
+            init: optional_member(alloc, payload, "init")?,
         })
     }
 }
 
 impl FromJson for FunctionArgument {
+    ghost Seen = { SeenArgument };
+
+    ghost seen = { seen_argument };
+
+    ghost said = { function_argument_said };
+
     fn from_json(alloc: Global, payload: &Value) -> Result<FunctionArgument, ReadError> {
         expect_members(alloc, payload, &["name", "ty", "binding"])?;
         Ok(FunctionArgument {
-            name: member(alloc, payload, "name")?,
+            name: optional_member(alloc, payload, "name")?,
             ty: member(alloc, payload, "ty")?,
-            binding: member(alloc, payload, "binding")?,
+            binding: optional_member(alloc, payload, "binding")?,
         })
     }
 }
 
 impl FromJson for FunctionResult {
+    ghost Seen = { Self };
+
+    ghost seen = { same };
+
+    ghost said = { function_result_said };
+
     fn from_json(alloc: Global, payload: &Value) -> Result<FunctionResult, ReadError> {
         expect_members(alloc, payload, &["ty", "binding"])?;
         Ok(FunctionResult {
             ty: member(alloc, payload, "ty")?,
-            binding: member(alloc, payload, "binding")?,
+            binding: optional_member(alloc, payload, "binding")?,
         })
     }
 }
 
 impl FromJson for MeshStageInfo {
+    ghost Seen = { Self };
+
+    ghost seen = { same };
+
+    ghost said = { mesh_stage_info_said };
+
     fn from_json(alloc: Global, payload: &Value) -> Result<MeshStageInfo, ReadError> {
         expect_members_beside(alloc, payload, &["output_variable"], let_be::OF_MESH_INFO)?;
         Ok(MeshStageInfo {
@@ -140,26 +204,39 @@ const ENTRY_POINT_MEMBERS: &[&str] = &[
 ];
 
 impl FromJson for EntryPoint {
+    ghost Seen = { SeenEntryPoint };
+
+    ghost seen = { seen_entry_point };
+
+    ghost said = { entry_point_said };
+
+    #[tactic(auto, unfolding(crate::specs::Functions::entry_point_said))]
     fn from_json(alloc: Global, payload: &Value) -> Result<EntryPoint, ReadError> {
         expect_members(alloc, payload, ENTRY_POINT_MEMBERS)?;
         if let Some(test) = payload.get("early_depth_test") {
             in_member(alloc, "early_depth_test", expect_null(alloc, test))?;
         }
-        expect_size_expressions(alloc, payload)?;
+        size_expressions(alloc, payload)?;
         Ok(EntryPoint {
             name: member(alloc, payload, "name")?,
             stage: member(alloc, payload, "stage")?,
             workgroup_size: member(alloc, payload, "workgroup_size")?,
             workgroup_size_overrides: [None, None, None],
             function: member(alloc, payload, "function")?,
-            mesh_info: member(alloc, payload, "mesh_info")?,
-            task_payload: member(alloc, payload, "task_payload")?,
-            incoming_ray_payload: member(alloc, payload, "incoming_ray_payload")?,
+            mesh_info: optional_member(alloc, payload, "mesh_info")?,
+            task_payload: optional_member(alloc, payload, "task_payload")?,
+            incoming_ray_payload: optional_member(alloc, payload, "incoming_ray_payload")?,
         })
     }
 }
 
 impl FromJson for [u32; 3] {
+    ghost Seen = { List ℕ };
+
+    ghost seen = { same };
+
+    ghost said = { tuple_said 3 (unsigned_said 32) };
+
     fn from_json(alloc: Global, value: &Value) -> Result<[u32; 3], ReadError> {
         match items_of(alloc, value)?.as_slice() {
             [x, y, z] => Ok([
@@ -172,140 +249,7 @@ impl FromJson for [u32; 3] {
     }
 }
 
-/// A label, with the index of the expression that it is for.
-#[derive(Drop)]
-struct NamedExpression {
-    index: usize,
-    label: String,
-}
-
-impl FromJson for IndexMap<Handle<Expression>, String> {
-    fn from_json(
-        alloc: Global,
-        value: &Value,
-    ) -> Result<IndexMap<Handle<Expression>, String>, ReadError> {
-        // of a name that comes twice, the last value stays
-        let mut labels = BTreeMap::new(alloc);
-        for member in members_of(alloc, value)? {
-            labels.insert(member.0, &member.1)?;
-        }
-        let mut named = Vec::with_capacity(alloc, labels.len())?;
-        for (key, label) in labels.iter() {
-            let key = *key;
-            named.push(in_member(alloc, key, named_expression(alloc, key, *label))?)?;
-        }
-        // the members' order is that of texts: "10" stands before "2"
-        named.sort_unstable_by_key(|named| named.index);
-        let mut read = IndexMap::new(alloc);
-        for named in named {
-            read.insert(ItemIndex::from_index(named.index), named.label)?;
-        }
-        Ok(read)
-    }
-}
-
-/// The label of an expression, whose index is the member's name.
-fn named_expression(alloc: Global, key: &str, label: &Value) -> Result<NamedExpression, ReadError> {
-    let index = index_in(alloc, key)?;
-    let label = String::from_json(alloc, label)?;
-    Ok(NamedExpression { index, label })
-}
-
-/// The index that a member's name is.
-fn index_in(alloc: Global, key: &str) -> Result<usize, ReadError> {
-    if !is_natural_number(key) {
-        return Err(mistyped(alloc, JsonKind::WholeNumber));
-    }
-    match key.parse::<usize>() {
-        Ok(index) => Ok(index),
-        Err(_) => Err(ReadError::at(alloc, Problem::OutOfRange)),
-    }
-}
-
-/// Whether the text is a number in the one way that numbers are written: so no two keys are one.
-fn is_natural_number(text: &str) -> bool {
-    let has_digits = !text.is_empty() && text.bytes().all(|byte| byte.is_ascii_digit());
-    has_digits && (text == "0" || !text.starts_with('0'))
-}
-
-impl FromJson for IndexMap<PredeclaredType, Handle<Type_>> {
-    fn from_json(
-        alloc: Global,
-        value: &Value,
-    ) -> Result<IndexMap<PredeclaredType, Handle<Type_>>, ReadError> {
-        let mut read = IndexMap::new(alloc);
-        // a map whose keys are no texts is a list of pairs, or an object without members
-        if is_empty_object(value) {
-            return Ok(read);
-        }
-        let pairs = items_of(alloc, value)?;
-        for (index, pair) in pairs.iter().enumerate() {
-            let pair = in_item(alloc, index, predeclared_pair(alloc, pair))?;
-            if read.insert(pair.key, pair.ty)?.is_some() {
-                return in_item(alloc, index, Err(ReadError::at(alloc, Problem::Doubled)));
-            }
-        }
-        Ok(read)
-    }
-}
-
-/// A predeclared struct, with its type in the module.
-#[derive(Clone, Copy)]
-struct PredeclaredPair {
-    key: PredeclaredType,
-    ty: Handle<Type_>,
-}
-
-/// A pair of a map: a list of two.
-fn predeclared_pair(alloc: Global, value: &Value) -> Result<PredeclaredPair, ReadError> {
-    match items_of(alloc, value)?.as_slice() {
-        [key, ty] => Ok(PredeclaredPair {
-            key: item_of(alloc, key, 0)?,
-            ty: item_of(alloc, ty, 1)?,
-        }),
-        _ => Err(ReadError::at(alloc, Problem::WrongLength(2))),
-    }
-}
-
-/// Whether the value is an object without members.
-fn is_empty_object(value: &Value) -> bool {
-    match value {
-        Value::Object(members) => members.is_empty(),
-        _ => false,
-    }
-}
-
-/// The members of [`SpecialTypes`].
-const SPECIAL_TYPES_MEMBERS: &[&str] = &[
-    "predeclared_types",
-    "external_texture_params",
-    "external_texture_transfer_function",
-    "ray_desc",
-    "ray_intersection",
-    "ray_vertex_return",
-];
-
-impl FromJson for SpecialTypes {
-    fn from_json(alloc: Global, payload: &Value) -> Result<SpecialTypes, ReadError> {
-        expect_members(alloc, payload, SPECIAL_TYPES_MEMBERS)?;
-        let mut predeclared_types = IndexMap::new(alloc);
-        fill(alloc, payload, "predeclared_types", &mut predeclared_types)?;
-        Ok(SpecialTypes {
-            external_texture_params: member(alloc, payload, "external_texture_params")?,
-            external_texture_transfer_function: member(
-                alloc,
-                payload,
-                "external_texture_transfer_function",
-            )?,
-            ray_desc: member(alloc, payload, "ray_desc")?,
-            ray_intersection: member(alloc, payload, "ray_intersection")?,
-            ray_vertex_return: member(alloc, payload, "ray_vertex_return")?,
-            predeclared_types,
-        })
-    }
-}
-
-/// The members of [`Function`].
+/// The members of [`Function`], and the leaf of its filters, which is looked at with the module's.
 const FUNCTION_MEMBERS: &[&str] = &[
     "name",
     "result",
@@ -314,18 +258,31 @@ const FUNCTION_MEMBERS: &[&str] = &[
     "expressions",
     "named_expressions",
     "body",
+    "diagnostic_filter_leaf",
 ];
 
 impl FromJson for Function {
+    ghost Seen = { SeenFunction };
+
+    ghost seen = { seen_function };
+
+    ghost said = { function_said };
+
+    #[tactic(auto, using(crate::proofs::SeenModules::function_empty), unfolding(crate::specs::Functions::function_said))]
     fn from_json(alloc: Global, value: &Value) -> Result<Function, ReadError> {
-        expect_members_beside(alloc, value, FUNCTION_MEMBERS, let_be::OF_FUNCTION)?;
+        expect_members(alloc, value, FUNCTION_MEMBERS)?;
         let mut function = Function::new(alloc);
         fill_function(alloc, value, &mut function)?;
         Ok(function)
     }
 }
 
-fn fill_function(alloc: Global, value: &Value, function: &mut Function) -> Result<(), ReadError> {
+#[tactic(auto, unfolding(crate::specs::Functions::function_members))]
+fn fill_function(alloc: Global, value: &Value, function: &mut Function) -> Result<(), ReadError>
+    requires { seen_function function.old ≡ no_function }
+    ensures { Gives (λ _. seen_function function.new)
+        (function_members (value_view value.now)) result }
+{
     fill(alloc, value, "name", &mut function.name)?;
     fill(alloc, value, "result", &mut function.result)?;
     fill(alloc, value, "arguments", &mut function.arguments)?;
@@ -355,18 +312,40 @@ const MODULE_MEMBERS: &[&str] = &[
     "global_expressions",
     "functions",
     "entry_points",
+    "diagnostic_filters",
+    "diagnostic_filter_leaf",
 ];
 
 impl FromJson for Module {
-    fn from_json(alloc: Global, value: &Value) -> Result<Module, ReadError> {
+    ghost Seen = { SeenModule };
+
+    ghost seen = { seen_module };
+
+    ghost said = { module_said };
+
+    #[tactic(auto, using(crate::proofs::SeenModules::module_empty), unfolding(crate::specs::Modules::module_said))]
+    fn from_json(alloc: Global, value: &Value) -> Result<Module, ReadError>
+        ensures said { Gives seen_module (module_said (value_view value.now)) result }
+        ensures filters { IfOk result
+            (λ m. filters_said (value_view value.now) ≡ Some (filters_of m)) }
+    {
         expect_members_beside(alloc, value, MODULE_MEMBERS, let_be::OF_MODULE)?;
         let mut module = Module::new(alloc);
         fill_module(alloc, value, &mut module)?;
+        fill_size_overrides(alloc, value, &mut module)?;
+        let filters = filters_of(alloc, value)?;
+        module.diagnostic_filters = filters.nodes;
+        module.diagnostic_filter_leaf = filters.leaf;
         Ok(module)
     }
 }
 
-fn fill_module(alloc: Global, value: &Value, module: &mut Module) -> Result<(), ReadError> {
+/// Reads all but the overrides of the sizes of workgroups.
+#[tactic(auto, unfolding(crate::specs::Modules::module_members))]
+fn fill_module(alloc: Global, value: &Value, module: &mut Module) -> Result<(), ReadError>
+    requires { seen_module «module».old ≡ no_module }
+    ensures { Gives (λ _. seen_module «module».new) (module_members (value_view value.now)) result }
+{
     fill(alloc, value, "types", &mut module.types)?;
     fill(alloc, value, "special_types", &mut module.special_types)?;
     fill(alloc, value, "constants", &mut module.constants)?;
@@ -384,6 +363,5 @@ fn fill_module(alloc: Global, value: &Value, module: &mut Module) -> Result<(), 
         &mut module.global_expressions,
     )?;
     fill(alloc, value, "functions", &mut module.functions)?;
-    fill(alloc, value, "entry_points", &mut module.entry_points)?;
-    fill_size_overrides(alloc, value, module)
+    fill(alloc, value, "entry_points", &mut module.entry_points)
 }

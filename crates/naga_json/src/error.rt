@@ -1,5 +1,7 @@
 //! Why nothing was read.
 
+ghost use Rattle.naga_json.specs.Said.{IsRefusal};
+
 use std::alloc::{AllocError, AllocFailed, Global};
 use std::error::Error;
 use std::fmt;
@@ -70,6 +72,13 @@ pub enum Problem {
     Doubled,
     /// It is a block in too many others. Those of a text, whose nesting is bounded, are few enough.
     TooDeep,
+    /// It is a handle of no filter of diagnostics.
+    NoFilter,
+    /// It is the parent of a filter of diagnostics, and no handle of an earlier one.
+    NoEarlierFilter,
+    /// It says that filters of diagnostics hold in one function alone, which modules here have no
+    /// room for: it is neither null nor the leaf of the module.
+    OwnFilters,
 }
 
 impl fmt::Display for Problem {
@@ -85,6 +94,9 @@ impl fmt::Display for Problem {
             Problem::NoKnownMember => f.write_str("no known member"),
             Problem::Doubled => f.write_str("equals an earlier type"),
             Problem::TooDeep => f.write_str("blocks nest too deep"),
+            Problem::NoFilter => f.write_str("no such filter"),
+            Problem::NoEarlierFilter => f.write_str("no earlier filter"),
+            Problem::OwnFilters => f.write_str("not supported unless null or the module's"),
         }
     }
 }
@@ -145,7 +157,9 @@ impl ReadError {
     }
 
     /// The same, seen from the value around it.
-    pub(crate) fn within(self, alloc: Global, step: &str) -> ReadError {
+    pub(crate) fn within(self, alloc: Global, step: &str) -> ReadError
+        ensures { IsRefusal result → IsRefusal self }
+    {
         match self {
             ReadError::Misfit { position, problem } => match joined(
                 alloc,
@@ -194,12 +208,22 @@ fn joined(alloc: Global, step: &str, position: &str) -> Result<String, AllocErro
 }
 
 impl<T: Drop> From<AllocFailed<T>> for ReadError {
+    ghost use Rattle.std.specs.Prelude.{◌≡◌};
+    ghost use Rattle.naga_json.specs.declared.error.ReadError.TheVariants.{OutOfMemory};
+
+    ghost from_gives = { λ _ e. e ≡ OutOfMemory };
+
     fn from(_failed: AllocFailed<T>) -> ReadError {
         ReadError::OutOfMemory
     }
 }
 
 impl From<AllocError> for ReadError {
+    ghost use Rattle.std.specs.Prelude.{◌≡◌};
+    ghost use Rattle.naga_json.specs.declared.error.ReadError.TheVariants.{OutOfMemory};
+
+    ghost from_gives = { λ _ e. e ≡ OutOfMemory };
+
     fn from(_error: AllocError) -> ReadError {
         ReadError::OutOfMemory
     }

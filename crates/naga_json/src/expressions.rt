@@ -1,16 +1,50 @@
 //! Expressions, and literals.
 
+ghost use Rattle.std.specs.Prelude.{◌≡◌, List, option_and_then};
+ghost use Rattle.std.specs.Float.{binary32};
+ghost use Rattle.std.specs.Float.Parse.{parse_float};
+ghost use Rattle.json.specs.Find.{as_number};
+ghost use Rattle.naga_ir.specs.declared.expression.SwizzleComponent.{SwizzleComponent};
+ghost use Rattle.naga_json.specs.Floats.{told_bits_said, double_bits_said, single_bits_said};
+ghost use Rattle.naga_json.specs.Floats.{half_bits_said};
+ghost use Rattle.json.specs.Value.{value_view};
+ghost use Rattle.naga_json.specs.Expressions.{swizzle_component_said, sample_level_names};
+ghost use Rattle.naga_json.specs.Expressions.{level_gradient_said, sample_level_payload};
+ghost use Rattle.naga_json.specs.Expressions.{sample_level_said, image_query_names};
+ghost use Rattle.naga_json.specs.Expressions.{query_size_said, image_query_payload};
+ghost use Rattle.naga_json.specs.Expressions.{image_query_said, cooperative_data_said};
+ghost use Rattle.naga_json.specs.Expressions.{expression_names, literal_names, decimal_said};
+ghost use Rattle.naga_json.specs.Expressions.{literal_payload, literal_said};
+ghost use Rattle.naga_json.specs.Expressions.{compose_expression_said, access_expression_said};
+ghost use Rattle.naga_json.specs.Expressions.{access_index_expression_said, splat_expression_said};
+ghost use Rattle.naga_json.specs.Expressions.{swizzle_expression_said, load_expression_said};
+ghost use Rattle.naga_json.specs.Expressions.{image_sample_expression_said};
+ghost use Rattle.naga_json.specs.Expressions.{image_load_expression_said};
+ghost use Rattle.naga_json.specs.Expressions.{image_query_expression_said, unary_expression_said};
+ghost use Rattle.naga_json.specs.Expressions.{binary_expression_said, select_expression_said};
+ghost use Rattle.naga_json.specs.Expressions.{derivative_expression_said};
+ghost use Rattle.naga_json.specs.Expressions.{relational_expression_said, math_expression_said};
+ghost use Rattle.naga_json.specs.Expressions.{as_of_expression_said, atomic_result_expression_said};
+ghost use Rattle.naga_json.specs.Expressions.{work_group_uniform_load_result_expression_said};
+ghost use Rattle.naga_json.specs.Expressions.{ray_query_get_intersection_expression_said};
+ghost use Rattle.naga_json.specs.Expressions.{ray_query_vertex_positions_expression_said};
+ghost use Rattle.naga_json.specs.Expressions.{subgroup_operation_result_expression_said};
+ghost use Rattle.naga_json.specs.Expressions.{cooperative_load_expression_said};
+ghost use Rattle.naga_json.specs.Expressions.{cooperative_multiply_add_expression_said};
+ghost use Rattle.naga_json.specs.Expressions.{expression_payload, expression_said};
+ghost use Rattle.naga_json.specs.Said.{Gives, same, tuple_said};
+ghost use Rattle.naga_json.specs.Seen.{SeenExpression, seen_expression};
+
 use crate::error::{JsonKind, Problem, ReadError};
 use crate::shape::{
     FromJson, Variants, expect_members, is_object, item_of, items_of, member, mistyped,
-    read_variant, unit, word,
+    optional_member, read_variant, unit, word,
 };
 use decimal_numerals::Decimal;
 use json::Value;
 use naga_ir::{CooperativeData, Expression, ImageQuery, Literal, SampleLevel, SwizzleComponent};
-use ryu::Buffer;
 use std::alloc::Global;
-use std::num::nearest_f64_to_f32_with_nan;
+use std::num::{f32_to_bits_with_nan, f64_to_bits_with_nan};
 
 /// The words of [`SwizzleComponent`].
 const SWIZZLE_COMPONENT_WORDS: &[(&str, SwizzleComponent)] = &[
@@ -21,6 +55,12 @@ const SWIZZLE_COMPONENT_WORDS: &[(&str, SwizzleComponent)] = &[
 ];
 
 impl FromJson for SwizzleComponent {
+    ghost Seen = { Self };
+
+    ghost seen = { same };
+
+    ghost said = { swizzle_component_said };
+
     fn from_json(alloc: Global, value: &Value) -> Result<SwizzleComponent, ReadError> {
         word(alloc, value, SWIZZLE_COMPONENT_WORDS)
     }
@@ -46,6 +86,12 @@ const SAMPLE_LEVEL_NAMES: &[(&str, SampleLevelName)] = &[
 ];
 
 impl FromJson for SampleLevel {
+    ghost Seen = { Self };
+
+    ghost seen = { same };
+
+    ghost said = { sample_level_said };
+
     fn from_json(alloc: Global, value: &Value) -> Result<SampleLevel, ReadError> {
         read_variant(alloc, value)
     }
@@ -53,6 +99,14 @@ impl FromJson for SampleLevel {
 
 impl Variants for SampleLevel {
     type Name = SampleLevelName;
+
+    ghost Sight = { Self };
+
+    ghost sight = { same };
+
+    ghost table = { sample_level_names };
+
+    ghost payload_said = { sample_level_payload };
 
     fn names() -> &'static [(&'static str, SampleLevelName)] {
         SAMPLE_LEVEL_NAMES
@@ -73,7 +127,9 @@ impl Variants for SampleLevel {
     }
 }
 
-fn level_gradient(alloc: Global, payload: &Value) -> Result<SampleLevel, ReadError> {
+fn level_gradient(alloc: Global, payload: &Value) -> Result<SampleLevel, ReadError>
+    ensures { Gives same (level_gradient_said (value_view payload.now)) result }
+{
     expect_members(alloc, payload, &["x", "y"])?;
     Ok(SampleLevel::Gradient {
         x: member(alloc, payload, "x")?,
@@ -99,6 +155,12 @@ const IMAGE_QUERY_NAMES: &[(&str, ImageQueryName)] = &[
 ];
 
 impl FromJson for ImageQuery {
+    ghost Seen = { Self };
+
+    ghost seen = { same };
+
+    ghost said = { image_query_said };
+
     fn from_json(alloc: Global, value: &Value) -> Result<ImageQuery, ReadError> {
         read_variant(alloc, value)
     }
@@ -106,6 +168,14 @@ impl FromJson for ImageQuery {
 
 impl Variants for ImageQuery {
     type Name = ImageQueryName;
+
+    ghost Sight = { Self };
+
+    ghost sight = { same };
+
+    ghost table = { image_query_names };
+
+    ghost payload_said = { image_query_payload };
 
     fn names() -> &'static [(&'static str, ImageQueryName)] {
         IMAGE_QUERY_NAMES
@@ -125,20 +195,28 @@ impl Variants for ImageQuery {
     }
 }
 
-fn query_size(alloc: Global, payload: &Value) -> Result<ImageQuery, ReadError> {
+fn query_size(alloc: Global, payload: &Value) -> Result<ImageQuery, ReadError>
+    ensures { Gives same (query_size_said (value_view payload.now)) result }
+{
     expect_members(alloc, payload, &["level"])?;
     Ok(ImageQuery::Size {
-        level: member(alloc, payload, "level")?,
+        level: optional_member(alloc, payload, "level")?,
     })
 }
 
 impl FromJson for CooperativeData {
+    ghost Seen = { Self };
+
+    ghost seen = { same };
+
+    ghost said = { cooperative_data_said };
+
     fn from_json(alloc: Global, payload: &Value) -> Result<CooperativeData, ReadError> {
         expect_members(alloc, payload, &["pointer", "stride", "row_major"])?;
         Ok(CooperativeData {
             pointer: member(alloc, payload, "pointer")?,
             stride: member(alloc, payload, "stride")?,
-            row_major: member(alloc, payload, "row_major")?,
+            row_major: optional_member(alloc, payload, "row_major")?,
         })
     }
 }
@@ -239,6 +317,12 @@ const EXPRESSION_NAMES: &[(&str, ExpressionName)] = &[
 ];
 
 impl FromJson for Expression {
+    ghost Seen = { SeenExpression };
+
+    ghost seen = { seen_expression };
+
+    ghost said = { expression_said };
+
     fn from_json(alloc: Global, value: &Value) -> Result<Expression, ReadError> {
         read_variant(alloc, value)
     }
@@ -246,6 +330,14 @@ impl FromJson for Expression {
 
 impl Variants for Expression {
     type Name = ExpressionName;
+
+    ghost Sight = { SeenExpression };
+
+    ghost sight = { seen_expression };
+
+    ghost table = { expression_names };
+
+    ghost payload_said = { expression_payload };
 
     fn names() -> &'static [(&'static str, ExpressionName)] {
         EXPRESSION_NAMES
@@ -331,7 +423,9 @@ impl Variants for Expression {
     }
 }
 
-fn compose_expression(alloc: Global, payload: &Value) -> Result<Expression, ReadError> {
+fn compose_expression(alloc: Global, payload: &Value) -> Result<Expression, ReadError>
+    ensures { Gives seen_expression (compose_expression_said (value_view payload.now)) result }
+{
     expect_members(alloc, payload, &["ty", "components"])?;
     Ok(Expression::Compose {
         ty: member(alloc, payload, "ty")?,
@@ -339,7 +433,9 @@ fn compose_expression(alloc: Global, payload: &Value) -> Result<Expression, Read
     })
 }
 
-fn access_expression(alloc: Global, payload: &Value) -> Result<Expression, ReadError> {
+fn access_expression(alloc: Global, payload: &Value) -> Result<Expression, ReadError>
+    ensures { Gives seen_expression (access_expression_said (value_view payload.now)) result }
+{
     expect_members(alloc, payload, &["base", "index"])?;
     Ok(Expression::Access {
         base: member(alloc, payload, "base")?,
@@ -347,7 +443,9 @@ fn access_expression(alloc: Global, payload: &Value) -> Result<Expression, ReadE
     })
 }
 
-fn access_index_expression(alloc: Global, payload: &Value) -> Result<Expression, ReadError> {
+fn access_index_expression(alloc: Global, payload: &Value) -> Result<Expression, ReadError>
+    ensures { Gives seen_expression (access_index_expression_said (value_view payload.now)) result }
+{
     expect_members(alloc, payload, &["base", "index"])?;
     Ok(Expression::AccessIndex {
         base: member(alloc, payload, "base")?,
@@ -355,7 +453,9 @@ fn access_index_expression(alloc: Global, payload: &Value) -> Result<Expression,
     })
 }
 
-fn splat_expression(alloc: Global, payload: &Value) -> Result<Expression, ReadError> {
+fn splat_expression(alloc: Global, payload: &Value) -> Result<Expression, ReadError>
+    ensures { Gives seen_expression (splat_expression_said (value_view payload.now)) result }
+{
     expect_members(alloc, payload, &["size", "value"])?;
     Ok(Expression::Splat {
         size: member(alloc, payload, "size")?,
@@ -363,7 +463,9 @@ fn splat_expression(alloc: Global, payload: &Value) -> Result<Expression, ReadEr
     })
 }
 
-fn swizzle_expression(alloc: Global, payload: &Value) -> Result<Expression, ReadError> {
+fn swizzle_expression(alloc: Global, payload: &Value) -> Result<Expression, ReadError>
+    ensures { Gives seen_expression (swizzle_expression_said (value_view payload.now)) result }
+{
     expect_members(alloc, payload, &["size", "vector", "pattern"])?;
     Ok(Expression::Swizzle {
         size: member(alloc, payload, "size")?,
@@ -372,14 +474,18 @@ fn swizzle_expression(alloc: Global, payload: &Value) -> Result<Expression, Read
     })
 }
 
-fn load_expression(alloc: Global, payload: &Value) -> Result<Expression, ReadError> {
+fn load_expression(alloc: Global, payload: &Value) -> Result<Expression, ReadError>
+    ensures { Gives seen_expression (load_expression_said (value_view payload.now)) result }
+{
     expect_members(alloc, payload, &["pointer"])?;
     Ok(Expression::Load {
         pointer: member(alloc, payload, "pointer")?,
     })
 }
 
-fn image_sample_expression(alloc: Global, payload: &Value) -> Result<Expression, ReadError> {
+fn image_sample_expression(alloc: Global, payload: &Value) -> Result<Expression, ReadError>
+    ensures { Gives seen_expression (image_sample_expression_said (value_view payload.now)) result }
+{
     expect_members(
         alloc,
         payload,
@@ -398,17 +504,19 @@ fn image_sample_expression(alloc: Global, payload: &Value) -> Result<Expression,
     Ok(Expression::ImageSample {
         image: member(alloc, payload, "image")?,
         sampler: member(alloc, payload, "sampler")?,
-        gather: member(alloc, payload, "gather")?,
+        gather: optional_member(alloc, payload, "gather")?,
         coordinate: member(alloc, payload, "coordinate")?,
-        array_index: member(alloc, payload, "array_index")?,
-        offset: member(alloc, payload, "offset")?,
+        array_index: optional_member(alloc, payload, "array_index")?,
+        offset: optional_member(alloc, payload, "offset")?,
         level: member(alloc, payload, "level")?,
-        depth_ref: member(alloc, payload, "depth_ref")?,
-        clamp_to_edge: member(alloc, payload, "clamp_to_edge")?,
+        depth_ref: optional_member(alloc, payload, "depth_ref")?,
+        clamp_to_edge: optional_member(alloc, payload, "clamp_to_edge")?,
     })
 }
 
-fn image_load_expression(alloc: Global, payload: &Value) -> Result<Expression, ReadError> {
+fn image_load_expression(alloc: Global, payload: &Value) -> Result<Expression, ReadError>
+    ensures { Gives seen_expression (image_load_expression_said (value_view payload.now)) result }
+{
     expect_members(
         alloc,
         payload,
@@ -417,13 +525,15 @@ fn image_load_expression(alloc: Global, payload: &Value) -> Result<Expression, R
     Ok(Expression::ImageLoad {
         image: member(alloc, payload, "image")?,
         coordinate: member(alloc, payload, "coordinate")?,
-        array_index: member(alloc, payload, "array_index")?,
-        sample: member(alloc, payload, "sample")?,
-        level: member(alloc, payload, "level")?,
+        array_index: optional_member(alloc, payload, "array_index")?,
+        sample: optional_member(alloc, payload, "sample")?,
+        level: optional_member(alloc, payload, "level")?,
     })
 }
 
-fn image_query_expression(alloc: Global, payload: &Value) -> Result<Expression, ReadError> {
+fn image_query_expression(alloc: Global, payload: &Value) -> Result<Expression, ReadError>
+    ensures { Gives seen_expression (image_query_expression_said (value_view payload.now)) result }
+{
     expect_members(alloc, payload, &["image", "query"])?;
     Ok(Expression::ImageQuery {
         image: member(alloc, payload, "image")?,
@@ -431,7 +541,9 @@ fn image_query_expression(alloc: Global, payload: &Value) -> Result<Expression, 
     })
 }
 
-fn unary_expression(alloc: Global, payload: &Value) -> Result<Expression, ReadError> {
+fn unary_expression(alloc: Global, payload: &Value) -> Result<Expression, ReadError>
+    ensures { Gives seen_expression (unary_expression_said (value_view payload.now)) result }
+{
     expect_members(alloc, payload, &["op", "expr"])?;
     Ok(Expression::Unary {
         op: member(alloc, payload, "op")?,
@@ -439,7 +551,9 @@ fn unary_expression(alloc: Global, payload: &Value) -> Result<Expression, ReadEr
     })
 }
 
-fn binary_expression(alloc: Global, payload: &Value) -> Result<Expression, ReadError> {
+fn binary_expression(alloc: Global, payload: &Value) -> Result<Expression, ReadError>
+    ensures { Gives seen_expression (binary_expression_said (value_view payload.now)) result }
+{
     expect_members(alloc, payload, &["op", "left", "right"])?;
     Ok(Expression::Binary {
         op: member(alloc, payload, "op")?,
@@ -448,7 +562,9 @@ fn binary_expression(alloc: Global, payload: &Value) -> Result<Expression, ReadE
     })
 }
 
-fn select_expression(alloc: Global, payload: &Value) -> Result<Expression, ReadError> {
+fn select_expression(alloc: Global, payload: &Value) -> Result<Expression, ReadError>
+    ensures { Gives seen_expression (select_expression_said (value_view payload.now)) result }
+{
     expect_members(alloc, payload, &["condition", "accept", "reject"])?;
     Ok(Expression::Select {
         condition: member(alloc, payload, "condition")?,
@@ -457,7 +573,9 @@ fn select_expression(alloc: Global, payload: &Value) -> Result<Expression, ReadE
     })
 }
 
-fn derivative_expression(alloc: Global, payload: &Value) -> Result<Expression, ReadError> {
+fn derivative_expression(alloc: Global, payload: &Value) -> Result<Expression, ReadError>
+    ensures { Gives seen_expression (derivative_expression_said (value_view payload.now)) result }
+{
     expect_members(alloc, payload, &["axis", "ctrl", "expr"])?;
     Ok(Expression::Derivative {
         axis: member(alloc, payload, "axis")?,
@@ -466,7 +584,9 @@ fn derivative_expression(alloc: Global, payload: &Value) -> Result<Expression, R
     })
 }
 
-fn relational_expression(alloc: Global, payload: &Value) -> Result<Expression, ReadError> {
+fn relational_expression(alloc: Global, payload: &Value) -> Result<Expression, ReadError>
+    ensures { Gives seen_expression (relational_expression_said (value_view payload.now)) result }
+{
     expect_members(alloc, payload, &["fun", "argument"])?;
     Ok(Expression::Relational {
         fun: member(alloc, payload, "fun")?,
@@ -474,38 +594,46 @@ fn relational_expression(alloc: Global, payload: &Value) -> Result<Expression, R
     })
 }
 
-fn math_expression(alloc: Global, payload: &Value) -> Result<Expression, ReadError> {
+fn math_expression(alloc: Global, payload: &Value) -> Result<Expression, ReadError>
+    ensures { Gives seen_expression (math_expression_said (value_view payload.now)) result }
+{
     expect_members(alloc, payload, &["fun", "arg", "arg1", "arg2", "arg3"])?;
     Ok(Expression::Math {
         fun: member(alloc, payload, "fun")?,
         arg: member(alloc, payload, "arg")?,
-        arg1: member(alloc, payload, "arg1")?,
-        arg2: member(alloc, payload, "arg2")?,
-        arg3: member(alloc, payload, "arg3")?,
+        arg1: optional_member(alloc, payload, "arg1")?,
+        arg2: optional_member(alloc, payload, "arg2")?,
+        arg3: optional_member(alloc, payload, "arg3")?,
     })
 }
 
-fn as_of_expression(alloc: Global, payload: &Value) -> Result<Expression, ReadError> {
+fn as_of_expression(alloc: Global, payload: &Value) -> Result<Expression, ReadError>
+    ensures { Gives seen_expression (as_of_expression_said (value_view payload.now)) result }
+{
     expect_members(alloc, payload, &["expr", "kind", "convert"])?;
     Ok(Expression::As {
         expr: member(alloc, payload, "expr")?,
         kind: member(alloc, payload, "kind")?,
-        convert: member(alloc, payload, "convert")?,
+        convert: optional_member(alloc, payload, "convert")?,
     })
 }
 
-fn atomic_result_expression(alloc: Global, payload: &Value) -> Result<Expression, ReadError> {
+fn atomic_result_expression(alloc: Global, payload: &Value) -> Result<Expression, ReadError>
+    ensures { Gives seen_expression (atomic_result_expression_said (value_view payload.now)) result }
+{
     expect_members(alloc, payload, &["ty", "comparison"])?;
     Ok(Expression::AtomicResult {
         ty: member(alloc, payload, "ty")?,
-        comparison: member(alloc, payload, "comparison")?,
+        comparison: optional_member(alloc, payload, "comparison")?,
     })
 }
 
 fn work_group_uniform_load_result_expression(
     alloc: Global,
     payload: &Value,
-) -> Result<Expression, ReadError> {
+) -> Result<Expression, ReadError>
+    ensures { Gives seen_expression (work_group_uniform_load_result_expression_said (value_view payload.now)) result }
+{
     expect_members(alloc, payload, &["ty"])?;
     Ok(Expression::WorkGroupUniformLoadResult {
         ty: member(alloc, payload, "ty")?,
@@ -515,36 +643,44 @@ fn work_group_uniform_load_result_expression(
 fn ray_query_get_intersection_expression(
     alloc: Global,
     payload: &Value,
-) -> Result<Expression, ReadError> {
+) -> Result<Expression, ReadError>
+    ensures { Gives seen_expression (ray_query_get_intersection_expression_said (value_view payload.now)) result }
+{
     expect_members(alloc, payload, &["query", "committed"])?;
     Ok(Expression::RayQueryGetIntersection {
         query: member(alloc, payload, "query")?,
-        committed: member(alloc, payload, "committed")?,
+        committed: optional_member(alloc, payload, "committed")?,
     })
 }
 
 fn ray_query_vertex_positions_expression(
     alloc: Global,
     payload: &Value,
-) -> Result<Expression, ReadError> {
+) -> Result<Expression, ReadError>
+    ensures { Gives seen_expression (ray_query_vertex_positions_expression_said (value_view payload.now)) result }
+{
     expect_members(alloc, payload, &["query", "committed"])?;
     Ok(Expression::RayQueryVertexPositions {
         query: member(alloc, payload, "query")?,
-        committed: member(alloc, payload, "committed")?,
+        committed: optional_member(alloc, payload, "committed")?,
     })
 }
 
 fn subgroup_operation_result_expression(
     alloc: Global,
     payload: &Value,
-) -> Result<Expression, ReadError> {
+) -> Result<Expression, ReadError>
+    ensures { Gives seen_expression (subgroup_operation_result_expression_said (value_view payload.now)) result }
+{
     expect_members(alloc, payload, &["ty"])?;
     Ok(Expression::SubgroupOperationResult {
         ty: member(alloc, payload, "ty")?,
     })
 }
 
-fn cooperative_load_expression(alloc: Global, payload: &Value) -> Result<Expression, ReadError> {
+fn cooperative_load_expression(alloc: Global, payload: &Value) -> Result<Expression, ReadError>
+    ensures { Gives seen_expression (cooperative_load_expression_said (value_view payload.now)) result }
+{
     expect_members(alloc, payload, &["columns", "rows", "role", "data"])?;
     Ok(Expression::CooperativeLoad {
         columns: member(alloc, payload, "columns")?,
@@ -557,7 +693,9 @@ fn cooperative_load_expression(alloc: Global, payload: &Value) -> Result<Express
 fn cooperative_multiply_add_expression(
     alloc: Global,
     payload: &Value,
-) -> Result<Expression, ReadError> {
+) -> Result<Expression, ReadError>
+    ensures { Gives seen_expression (cooperative_multiply_add_expression_said (value_view payload.now)) result }
+{
     expect_members(alloc, payload, &["a", "b", "c"])?;
     Ok(Expression::CooperativeMultiplyAdd {
         a: member(alloc, payload, "a")?,
@@ -606,6 +744,12 @@ const LITERAL_NAMES: &[(&str, LiteralName)] = &[
 ];
 
 impl FromJson for Literal {
+    ghost Seen = { Self };
+
+    ghost seen = { same };
+
+    ghost said = { literal_said };
+
     fn from_json(alloc: Global, value: &Value) -> Result<Literal, ReadError> {
         read_variant(alloc, value)
     }
@@ -613,6 +757,14 @@ impl FromJson for Literal {
 
 impl Variants for Literal {
     type Name = LiteralName;
+
+    ghost Sight = { Self };
+
+    ghost sight = { same };
+
+    ghost table = { literal_names };
+
+    ghost payload_said = { literal_payload };
 
     fn names() -> &'static [(&'static str, LiteralName)] {
         LITERAL_NAMES
@@ -652,10 +804,16 @@ impl Variants for Literal {
 }
 
 impl FromJson for Decimal {
+    ghost Seen = { Self };
+
+    ghost seen = { same };
+
+    ghost said = { decimal_said };
+
     fn from_json(alloc: Global, value: &Value) -> Result<Decimal, ReadError> {
         expect_members(alloc, value, &["negative", "digits", "exponent"])?;
         Ok(Decimal {
-            negative: member(alloc, value, "negative")?,
+            negative: optional_member(alloc, value, "negative")?,
             digits: member(alloc, value, "digits")?,
             exponent: member(alloc, value, "exponent")?,
         })
@@ -663,67 +821,51 @@ impl FromJson for Decimal {
 }
 
 /// The bits of a number, where an object tells them instead.
-fn told_bits<T: FromJson>(alloc: Global, value: &Value) -> Result<T, ReadError> {
+fn told_bits<T: FromJson>(alloc: Global, value: &Value) -> Result<T, ReadError>
+    ensures { Gives T.seen (told_bits_said T.said (value_view value.now)) result }
+{
     expect_members(alloc, value, &["bits"])?;
     member(alloc, value, "bits")
 }
 
 /// The bits of a number of eight bytes.
-fn double_bits(alloc: Global, value: &Value) -> Result<u64, ReadError> {
+fn double_bits(alloc: Global, value: &Value) -> Result<u64, ReadError>
+    ensures { Gives same (double_bits_said (value_view value.now)) result }
+{
     if is_object(value) {
         return told_bits(alloc, value);
     }
     match value.as_f64() {
-        Some(number) if number.is_finite() => Ok(number.to_bits()),
+        Some(number) if number.is_finite() => Ok(f64_to_bits_with_nan(number)),
         _ => Err(mistyped(alloc, JsonKind::Number)),
     }
 }
 
 /// The bits of a number of four bytes.
-fn single_bits(alloc: Global, value: &Value) -> Result<u32, ReadError> {
+fn single_bits(alloc: Global, value: &Value) -> Result<u32, ReadError>
+    ensures { Gives same (single_bits_said (value_view value.now)) result }
+{
     if is_object(value) {
         return told_bits(alloc, value);
     }
-    match value.as_f64() {
-        Some(number) => bits_within(alloc, nearest_single(number)),
+    match nearest_single(value) {
+        Some(number) if number.is_finite() => Ok(f32_to_bits_with_nan(number)),
+        Some(_) => Err(ReadError::at(alloc, Problem::OutOfRange)),
         None => Err(mistyped(alloc, JsonKind::Number)),
     }
 }
 
-/// The bits of a number of four bytes, which is infinite where none is within their range.
-fn bits_within(alloc: Global, single: f32) -> Result<u32, ReadError> {
-    if single.is_finite() {
-        Ok(single.to_bits())
-    } else {
-        Err(ReadError::at(alloc, Problem::OutOfRange))
-    }
-}
-
-/// The number of four bytes that is nearest to a double. Halfway between two of them, it is the one
-/// whose shortest text tells the double, if there is one: that text was read as the double before.
-fn nearest_single(number: f64) -> f32 {
-    let nearest = nearest_f64_to_f32_with_nan(number);
-    // as far away on the other side, where there is a number of four bytes only from halfway
-    let mirrored = number + (number - f64::from(nearest));
-    let other = nearest_f64_to_f32_with_nan(mirrored);
-    if other != nearest && f64::from(other) == mirrored && tells(other, number) {
-        other
-    } else {
-        nearest
-    }
-}
-
-/// Whether the shortest text of a number of four bytes is read as this double.
-fn tells(single: f32, number: f64) -> bool {
-    let mut buffer = Buffer::new();
-    match buffer.format(single).parse::<f64>() {
-        Ok(read) => read == number,
-        Err(_) => false,
-    }
+/// The number of four bytes that is nearest to the number that is told.
+fn nearest_single(value: &Value) -> Option<f32>
+    ensures { result ≡ option_and_then (parse_float binary32) (as_number (value_view value.now)) }
+{
+    fast_float::parse(value.as_number()?).ok()
 }
 
 /// The bits of a number of two bytes, which stand for it.
-fn half_bits(alloc: Global, value: &Value) -> Result<u16, ReadError> {
+fn half_bits(alloc: Global, value: &Value) -> Result<u16, ReadError>
+    ensures { Gives same (half_bits_said (value_view value.now)) result }
+{
     if is_object(value) {
         told_bits(alloc, value)
     } else {
@@ -732,6 +874,12 @@ fn half_bits(alloc: Global, value: &Value) -> Result<u16, ReadError> {
 }
 
 impl FromJson for [SwizzleComponent; 4] {
+    ghost Seen = { List SwizzleComponent };
+
+    ghost seen = { same };
+
+    ghost said = { tuple_said 4 swizzle_component_said };
+
     fn from_json(alloc: Global, value: &Value) -> Result<[SwizzleComponent; 4], ReadError> {
         match items_of(alloc, value)?.as_slice() {
             [x, y, z, w] => Ok([

@@ -1,5 +1,14 @@
 //! What is known of modules.
 
+ghost use Rattle.std.specs.Prelude.{◌≡◌, List, map};
+ghost use Rattle.json.specs.Value.{value_view};
+ghost use Rattle.naga_json.specs.Infos.{type_resolution_said, expression_info_said};
+ghost use Rattle.naga_json.specs.Infos.{function_info_said, module_info_said, info_members, no_info};
+ghost use Rattle.naga_json.specs.Infos.{type_resolution_names, type_resolution_payload};
+ghost use Rattle.naga_json.specs.Said.{Gives};
+ghost use Rattle.naga_json.specs.Seen.{SeenResolution, SeenExpressionInfo, SeenModuleInfo};
+ghost use Rattle.naga_json.specs.Seen.{seen_resolution, seen_expression_info, seen_module_info};
+
 use crate::error::{JsonKind, ReadError};
 use crate::shape::{FromJson, Variants, expect_known, fill, member, mistyped, read_variant};
 use json::Value;
@@ -22,6 +31,12 @@ const TYPE_RESOLUTION_NAMES: &[(&str, TypeResolutionName)] = &[
 
 /// A number by itself is the handle of a type.
 impl FromJson for TypeResolution {
+    ghost Seen = { SeenResolution };
+
+    ghost seen = { seen_resolution };
+
+    ghost said = { type_resolution_said };
+
     fn from_json(alloc: Global, value: &Value) -> Result<TypeResolution, ReadError> {
         match value {
             Value::Number(_) => Ok(TypeResolution::Handle(ItemIndex::from_json(alloc, value)?)),
@@ -33,6 +48,14 @@ impl FromJson for TypeResolution {
 
 impl Variants for TypeResolution {
     type Name = TypeResolutionName;
+
+    ghost Sight = { SeenResolution };
+
+    ghost sight = { seen_resolution };
+
+    ghost table = { type_resolution_names };
+
+    ghost payload_said = { type_resolution_payload };
 
     fn names() -> &'static [(&'static str, TypeResolutionName)] {
         TYPE_RESOLUTION_NAMES
@@ -56,6 +79,12 @@ impl Variants for TypeResolution {
 
 /// A type by itself is that of an expression whose uses are not counted.
 impl FromJson for ExpressionInfo {
+    ghost Seen = { SeenExpressionInfo };
+
+    ghost seen = { seen_expression_info };
+
+    ghost said = { expression_info_said };
+
     fn from_json(alloc: Global, value: &Value) -> Result<ExpressionInfo, ReadError> {
         if value.get("ref_count").is_some() || value.get("ty").is_some() {
             Ok(ExpressionInfo {
@@ -73,6 +102,12 @@ impl FromJson for ExpressionInfo {
 
 /// A list by itself is that of the expressions.
 impl FromJson for FunctionInfo {
+    ghost Seen = { List SeenExpressionInfo };
+
+    ghost seen = { map seen_expression_info };
+
+    ghost said = { function_info_said };
+
     fn from_json(alloc: Global, value: &Value) -> Result<FunctionInfo, ReadError> {
         if matches!(value, Value::Array(_)) {
             return Ok(FunctionInfo {
@@ -89,6 +124,12 @@ impl FromJson for FunctionInfo {
 const INFO_MEMBERS: &[&str] = &["functions", "entry_points", "const_expression_types"];
 
 impl FromJson for ModuleInfo {
+    ghost Seen = { SeenModuleInfo };
+
+    ghost seen = { seen_module_info };
+
+    ghost said = { module_info_said };
+
     fn from_json(alloc: Global, value: &Value) -> Result<ModuleInfo, ReadError> {
         expect_known(alloc, value, INFO_MEMBERS)?;
         let mut info = ModuleInfo {
@@ -101,7 +142,10 @@ impl FromJson for ModuleInfo {
     }
 }
 
-fn fill_info(alloc: Global, value: &Value, info: &mut ModuleInfo) -> Result<(), ReadError> {
+fn fill_info(alloc: Global, value: &Value, info: &mut ModuleInfo) -> Result<(), ReadError>
+    requires { seen_module_info info.old ≡ no_info }
+    ensures { Gives (λ _. seen_module_info info.new) (info_members (value_view value.now)) result }
+{
     fill(alloc, value, "functions", &mut info.functions)?;
     fill(alloc, value, "entry_points", &mut info.entry_points)?;
     fill(

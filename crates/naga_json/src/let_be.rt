@@ -2,15 +2,8 @@
 //! that a shader does hangs on them. In an info each member that is not read is let be: it says
 //! what naga found out of the module.
 
-/// Of a module: the rules for what a compiler warns of, which of them holds, and comments.
-pub(crate) const OF_MODULE: &[&str] = &[
-    "diagnostic_filters",
-    "diagnostic_filter_leaf",
-    "doc_comments",
-];
-
-/// Of a function: which rule for what a compiler warns of holds in it.
-pub(crate) const OF_FUNCTION: &[&str] = &["diagnostic_filter_leaf"];
+/// Of a module: comments.
+pub(crate) const OF_MODULE: &[&str] = &["doc_comments"];
 
 /// Of a mesh stage: what the type of its output variable says too.
 pub(crate) const OF_MESH_INFO: &[&str] = &[

@@ -8,7 +8,8 @@
 //!   `continuing` and `memory_decorations`. Any other absent member is missed.
 //! - Nothing is lost. A member that is not read is refused by its name, unless nothing that a shader
 //!   does hangs on it, as on comments: `let_be.rt` lists those. An early depth test is refused unless
-//!   null: it has no place in a [`naga_ir::Module`]. Of an info only some members are read, and the
+//!   null: it has no place in a [`naga_ir::Module`]. Nor have filters of diagnostics that hold in one
+//!   function alone: those of the module are read. Of an info only some members are read, and the
 //!   others let be.
 //! - An enum is the name of a variant, or an object whose one member is the variant's payload, as
 //!   `"Break"` and `{"Load": {"pointer": 2}}`. The payload of a variant that has none is null:
@@ -18,8 +19,8 @@
 //! - Flags are their names, as `"LOAD | STORE"`, or their bits, as `3`.
 //! - A float is a number. What JSON has no number for is given by its bits, as
 //!   `{"F32": {"bits": 2139095040}}` for the infinity. An `F16` is given by its bits, as 15360 or
-//!   `{"bits": 15360}`. An `F32` is the nearest to the double that its number is; halfway between
-//!   two it is the one whose shortest text tells that double. One beyond its range is refused.
+//!   `{"bits": 15360}`. An `F32` or `F64` is the nearest to its number. One beyond its range is
+//!   refused.
 //! - `named_expressions` is an object, read in the order of its members' numbers.
 //! - `predeclared_types`, whose keys are no texts, is a list of pairs `[key, handle]`.
 //! - `workgroup_size_overrides` is null or a list of three, each null or one of the module's own
@@ -42,9 +43,11 @@
 
 mod bindings;
 mod declarations;
+mod diagnostics;
 mod error;
 mod expressions;
 mod infos;
+mod labels;
 mod let_be;
 mod modules;
 mod operators;
@@ -52,6 +55,7 @@ mod shape;
 mod sizes;
 mod statements;
 mod text;
+mod type_lists;
 mod types;
 
 pub use error::{JsonKind, Problem, ReadError};

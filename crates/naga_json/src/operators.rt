@@ -1,7 +1,18 @@
 //! Operators and functions.
 
+ghost use Rattle.json.specs.Value.{value_view};
+ghost use Rattle.naga_json.specs.Operators.{unary_operator_said, binary_operator_said};
+ghost use Rattle.naga_json.specs.Operators.{derivative_axis_said, derivative_control_said};
+ghost use Rattle.naga_json.specs.Operators.{relational_function_said, math_function_said};
+ghost use Rattle.naga_json.specs.Operators.{direction_said, collective_operation_said};
+ghost use Rattle.naga_json.specs.Operators.{subgroup_operation_said, atomic_function_names};
+ghost use Rattle.naga_json.specs.Operators.{atomic_exchange_said, atomic_function_payload};
+ghost use Rattle.naga_json.specs.Operators.{atomic_function_said, gather_mode_names};
+ghost use Rattle.naga_json.specs.Operators.{gather_mode_payload, gather_mode_said};
+ghost use Rattle.naga_json.specs.Said.{Gives, same};
+
 use crate::error::ReadError;
-use crate::shape::{FromJson, Variants, expect_members, member, read_variant, unit, word};
+use crate::shape::{FromJson, Variants, expect_members, optional_member, read_variant, unit, word};
 use json::Value;
 use naga_ir::{
     AtomicFunction, BinaryOperator, CollectiveOperation, DerivativeAxis, DerivativeControl,
@@ -17,6 +28,12 @@ const UNARY_OPERATOR_WORDS: &[(&str, UnaryOperator)] = &[
 ];
 
 impl FromJson for UnaryOperator {
+    ghost Seen = { Self };
+
+    ghost seen = { same };
+
+    ghost said = { unary_operator_said };
+
     fn from_json(alloc: Global, value: &Value) -> Result<UnaryOperator, ReadError> {
         word(alloc, value, UNARY_OPERATOR_WORDS)
     }
@@ -45,6 +62,12 @@ const BINARY_OPERATOR_WORDS: &[(&str, BinaryOperator)] = &[
 ];
 
 impl FromJson for BinaryOperator {
+    ghost Seen = { Self };
+
+    ghost seen = { same };
+
+    ghost said = { binary_operator_said };
+
     fn from_json(alloc: Global, value: &Value) -> Result<BinaryOperator, ReadError> {
         word(alloc, value, BINARY_OPERATOR_WORDS)
     }
@@ -58,6 +81,12 @@ const DERIVATIVE_AXIS_WORDS: &[(&str, DerivativeAxis)] = &[
 ];
 
 impl FromJson for DerivativeAxis {
+    ghost Seen = { Self };
+
+    ghost seen = { same };
+
+    ghost said = { derivative_axis_said };
+
     fn from_json(alloc: Global, value: &Value) -> Result<DerivativeAxis, ReadError> {
         word(alloc, value, DERIVATIVE_AXIS_WORDS)
     }
@@ -71,6 +100,12 @@ const DERIVATIVE_CONTROL_WORDS: &[(&str, DerivativeControl)] = &[
 ];
 
 impl FromJson for DerivativeControl {
+    ghost Seen = { Self };
+
+    ghost seen = { same };
+
+    ghost said = { derivative_control_said };
+
     fn from_json(alloc: Global, value: &Value) -> Result<DerivativeControl, ReadError> {
         word(alloc, value, DERIVATIVE_CONTROL_WORDS)
     }
@@ -85,6 +120,12 @@ const RELATIONAL_FUNCTION_WORDS: &[(&str, RelationalFunction)] = &[
 ];
 
 impl FromJson for RelationalFunction {
+    ghost Seen = { Self };
+
+    ghost seen = { same };
+
+    ghost said = { relational_function_said };
+
     fn from_json(alloc: Global, value: &Value) -> Result<RelationalFunction, ReadError> {
         word(alloc, value, RELATIONAL_FUNCTION_WORDS)
     }
@@ -174,6 +215,12 @@ const MATH_FUNCTION_WORDS: &[(&str, MathFunction)] = &[
 ];
 
 impl FromJson for MathFunction {
+    ghost Seen = { Self };
+
+    ghost seen = { same };
+
+    ghost said = { math_function_said };
+
     fn from_json(alloc: Global, value: &Value) -> Result<MathFunction, ReadError> {
         word(alloc, value, MATH_FUNCTION_WORDS)
     }
@@ -187,6 +234,12 @@ const DIRECTION_WORDS: &[(&str, Direction)] = &[
 ];
 
 impl FromJson for Direction {
+    ghost Seen = { Self };
+
+    ghost seen = { same };
+
+    ghost said = { direction_said };
+
     fn from_json(alloc: Global, value: &Value) -> Result<Direction, ReadError> {
         word(alloc, value, DIRECTION_WORDS)
     }
@@ -200,6 +253,12 @@ const COLLECTIVE_OPERATION_WORDS: &[(&str, CollectiveOperation)] = &[
 ];
 
 impl FromJson for CollectiveOperation {
+    ghost Seen = { Self };
+
+    ghost seen = { same };
+
+    ghost said = { collective_operation_said };
+
     fn from_json(alloc: Global, value: &Value) -> Result<CollectiveOperation, ReadError> {
         word(alloc, value, COLLECTIVE_OPERATION_WORDS)
     }
@@ -219,6 +278,12 @@ const SUBGROUP_OPERATION_WORDS: &[(&str, SubgroupOperation)] = &[
 ];
 
 impl FromJson for SubgroupOperation {
+    ghost Seen = { Self };
+
+    ghost seen = { same };
+
+    ghost said = { subgroup_operation_said };
+
     fn from_json(alloc: Global, value: &Value) -> Result<SubgroupOperation, ReadError> {
         word(alloc, value, SUBGROUP_OPERATION_WORDS)
     }
@@ -250,6 +315,12 @@ const ATOMIC_FUNCTION_NAMES: &[(&str, AtomicFunctionName)] = &[
 ];
 
 impl FromJson for AtomicFunction {
+    ghost Seen = { Self };
+
+    ghost seen = { same };
+
+    ghost said = { atomic_function_said };
+
     fn from_json(alloc: Global, value: &Value) -> Result<AtomicFunction, ReadError> {
         read_variant(alloc, value)
     }
@@ -257,6 +328,14 @@ impl FromJson for AtomicFunction {
 
 impl Variants for AtomicFunction {
     type Name = AtomicFunctionName;
+
+    ghost Sight = { Self };
+
+    ghost sight = { same };
+
+    ghost table = { atomic_function_names };
+
+    ghost payload_said = { atomic_function_payload };
 
     fn names() -> &'static [(&'static str, AtomicFunctionName)] {
         ATOMIC_FUNCTION_NAMES
@@ -280,10 +359,12 @@ impl Variants for AtomicFunction {
     }
 }
 
-fn atomic_exchange(alloc: Global, payload: &Value) -> Result<AtomicFunction, ReadError> {
+fn atomic_exchange(alloc: Global, payload: &Value) -> Result<AtomicFunction, ReadError>
+    ensures { Gives same (atomic_exchange_said (value_view payload.now)) result }
+{
     expect_members(alloc, payload, &["compare"])?;
     Ok(AtomicFunction::Exchange {
-        compare: member(alloc, payload, "compare")?,
+        compare: optional_member(alloc, payload, "compare")?,
     })
 }
 
@@ -313,6 +394,12 @@ const GATHER_MODE_NAMES: &[(&str, GatherModeName)] = &[
 ];
 
 impl FromJson for GatherMode {
+    ghost Seen = { Self };
+
+    ghost seen = { same };
+
+    ghost said = { gather_mode_said };
+
     fn from_json(alloc: Global, value: &Value) -> Result<GatherMode, ReadError> {
         read_variant(alloc, value)
     }
@@ -320,6 +407,14 @@ impl FromJson for GatherMode {
 
 impl Variants for GatherMode {
     type Name = GatherModeName;
+
+    ghost Sight = { Self };
+
+    ghost sight = { same };
+
+    ghost table = { gather_mode_names };
+
+    ghost payload_said = { gather_mode_payload };
 
     fn names() -> &'static [(&'static str, GatherModeName)] {
         GATHER_MODE_NAMES

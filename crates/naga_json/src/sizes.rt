@@ -1,10 +1,22 @@
 //! The overrides that set the size of workgroups. naga's JSON names an expression of the module
 //! there, where a module here has an override.
 
+ghost use Rattle.std.specs.Prelude.{◌≡◌, ℕ, List, Option, Some, codes};
+ghost use Rattle.json.specs.Value.{value_view};
+ghost use Rattle.naga_json.specs.Diagnostics.{list_at};
+ghost use Rattle.naga_json.specs.Functions.{size_list_said, sizes_said};
+ghost use Rattle.naga_json.specs.Modules.{added_override, axis_sized};
+ghost use Rattle.naga_json.specs.Modules.{constant_override, literal_override, override_of};
+ghost use Rattle.naga_json.specs.Modules.{point_sized, seen_module, sized_by, typed_override};
+ghost use Rattle.naga_json.specs.Modules.{with_sizes};
+ghost use Rattle.naga_json.specs.Numbers.{index_said};
+ghost use Rattle.naga_json.specs.Said.{Gives, option_said, tuple_said};
+
+use crate::diagnostics::list_at;
 use crate::error::{Problem, ReadError};
 use crate::shape::{FromJson, in_item, in_member, item_of, items_of};
 use json::Value;
-use naga_ir::{Expression, Handle, Literal, Module, Override, Type_, TypeInner};
+use naga_ir::{Constant, Expression, Handle, Literal, Module, Override, Type_, TypeInner};
 use std::alloc::Global;
 
 /// The member that an entry point has for them.
@@ -12,9 +24,15 @@ const MEMBER: &str = "workgroup_size_overrides";
 
 /// For each axis the expression that sets a size, if one does.
 #[derive(Clone, Copy)]
-struct SizeExpressions([Option<Handle<Expression>>; 3]);
+pub(crate) struct SizeExpressions([Option<Handle<Expression>>; 3]);
 
 impl FromJson for SizeExpressions {
+    ghost Seen = { List (Option ℕ) };
+
+    ghost seen = { λ s. s.0 };
+
+    ghost said = { tuple_said 3 (option_said index_said) };
+
     fn from_json(alloc: Global, value: &Value) -> Result<SizeExpressions, ReadError> {
         match items_of(alloc, value)?.as_slice() {
             [x, y, z] => Ok(SizeExpressions([
@@ -28,20 +46,29 @@ impl FromJson for SizeExpressions {
 }
 
 /// The expressions that set the size of an entry point's workgroups. A member that is absent or
-/// null says that none does.
-fn size_expressions(alloc: Global, entry_point: &Value) -> Result<SizeExpressions, ReadError> {
+/// null says that none does. What is no list of three expressions, each of which may be null, is
+/// refused.
+pub(crate) fn size_expressions(
+    alloc: Global,
+    entry_point: &Value,
+) -> Result<SizeExpressions, ReadError>
+    ensures { Gives (λ s. s.0) (sizes_said (value_view entry_point.now)) result }
+{
     match entry_point.get(MEMBER) {
-        Some(sizes) if !sizes.is_null() => {
-            in_member(alloc, MEMBER, SizeExpressions::from_json(alloc, sizes))
-        }
-        _ => Ok(SizeExpressions([None, None, None])),
+        Some(sizes) => in_member(alloc, MEMBER, size_list(alloc, sizes)),
+        None => Ok(SizeExpressions([None, None, None])),
     }
 }
 
-/// Refuses what is no list of three expressions, each of which may be null.
-pub(crate) fn expect_size_expressions(alloc: Global, entry_point: &Value) -> Result<(), ReadError> {
-    size_expressions(alloc, entry_point)?;
-    Ok(())
+/// The expressions of a list, or none where there is null.
+fn size_list(alloc: Global, sizes: &Value) -> Result<SizeExpressions, ReadError>
+    ensures { Gives (λ s. s.0) (size_list_said (value_view sizes.now)) result }
+{
+    if sizes.is_null() {
+        Ok(SizeExpressions([None, None, None]))
+    } else {
+        SizeExpressions::from_json(alloc, sizes)
+    }
 }
 
 /// Sets the overrides of the entry points that were read from this module's JSON, after all else of
@@ -51,18 +78,29 @@ pub(crate) fn fill_size_overrides(
     alloc: Global,
     value: &Value,
     module: &mut Module,
-) -> Result<(), ReadError> {
-    let Some(Value::Array(points)) = value.get("entry_points") else {
+) -> Result<(), ReadError>
+    ensures { Gives (λ _. seen_module «module».new)
+        (sized_by (list_at (codes "entry_points") (value_view value.now))
+        (seen_module «module».old)) result }
+{
+    let Some(points) = list_at(value, "entry_points") else {
         return Ok(());
     };
     for (index, point) in points.iter().enumerate() {
         let sizes = size_overrides(alloc, point, module);
         let sizes = in_member(alloc, "entry_points", in_item(alloc, index, sizes))?;
-        if index < module.entry_points.len() {
-            module.entry_points[index].workgroup_size_overrides = sizes;
-        }
+        set_sizes(module, index, sizes);
     }
     Ok(())
+}
+
+/// Sets the overrides of the entry point at this index.
+fn set_sizes(module: &mut Module, index: usize, sizes: [Option<Handle<Override>>; 3])
+    ensures { seen_module «module».new ≡ with_sizes (seen_module «module».old) index sizes }
+{
+    if index < module.entry_points.len() {
+        module.entry_points[index].workgroup_size_overrides = sizes;
+    }
 }
 
 /// For each axis of an entry point's workgroups the override that sets a size, if one does.
@@ -70,7 +108,10 @@ fn size_overrides(
     alloc: Global,
     entry_point: &Value,
     module: &mut Module,
-) -> Result<[Option<Handle<Override>>; 3], ReadError> {
+) -> Result<[Option<Handle<Override>>; 3], ReadError>
+    ensures { Gives (λ sizes. (sizes, seen_module «module».new))
+        (point_sized (value_view entry_point.now) (seen_module «module».old)) result }
+{
     let SizeExpressions([x, y, z]) = size_expressions(alloc, entry_point)?;
     Ok([
         size_override(alloc, 0, x, module)?,
@@ -85,7 +126,10 @@ fn size_override(
     axis: usize,
     size: Option<Handle<Expression>>,
     module: &mut Module,
-) -> Result<Option<Handle<Override>>, ReadError> {
+) -> Result<Option<Handle<Override>>, ReadError>
+    ensures { Gives (λ o. (o, seen_module «module».new))
+        (axis_sized size (seen_module «module».old)) result }
+{
     let Some(expression) = size else {
         return Ok(None);
     };
@@ -98,55 +142,86 @@ fn override_of(
     alloc: Global,
     expression: Handle<Expression>,
     module: &mut Module,
-) -> Result<Handle<Override>, ReadError> {
-    if let Some(found) = named_override(expression, module) {
-        return Ok(found);
-    }
-    match size_type(expression, module)? {
-        Some(ty) => Ok(
-            module.overrides.append(Override {
-                name: None,
-                id: None,
-                ty,
-                init: Some(expression),
-            })?,
-        ),
-        None => Err(ReadError::at(alloc, Problem::Unsupported)),
-    }
-}
-
-/// The override that the expression is, if it is one.
-fn named_override(expression: Handle<Expression>, module: &Module) -> Option<Handle<Override>> {
+) -> Result<Handle<Override>, ReadError>
+    ensures { Gives (λ o. (o, seen_module «module».new))
+        (override_of (seen_module «module».old) expression) result }
+{
     if expression.index() >= module.global_expressions.len() {
-        return None;
-    }
-    match &module.global_expressions[expression] {
-        Expression::Override(found) => Some(*found),
-        _ => None,
-    }
-}
-
-/// The type of an expression that can set a size, where it can be told: that of a constant, or a
-/// literal's integer of 32 bits, which the module has from then on.
-fn size_type(
-    expression: Handle<Expression>,
-    module: &mut Module,
-) -> Result<Option<Handle<Type_>>, ReadError> {
-    if expression.index() >= module.global_expressions.len() {
-        return Ok(None);
+        return Err(ReadError::at(alloc, Problem::Unsupported));
     }
     match module.global_expressions[expression] {
-        Expression::Constant(constant) if constant.index() < module.constants.len() => {
-            Ok(Some(module.constants[constant].ty))
-        }
-        Expression::Literal(literal) if matches!(literal, Literal::U32(_) | Literal::I32(_)) => {
-            Ok(Some(
-                module.types.insert(Type_ {
-                    name: None,
-                    inner: TypeInner::Scalar(literal.scalar()),
-                })?,
-            ))
-        }
-        _ => Ok(None),
+        Expression::Override(found) => Ok(found),
+        Expression::Constant(constant) => constant_override(alloc, constant, expression, module),
+        Expression::Literal(literal) => literal_override(alloc, literal, expression, module),
+        _ => Err(ReadError::at(alloc, Problem::Unsupported)),
     }
+}
+
+/// A new override of the type of this constant, which the expression is.
+fn constant_override(
+    alloc: Global,
+    constant: Handle<Constant>,
+    expression: Handle<Expression>,
+    module: &mut Module,
+) -> Result<Handle<Override>, ReadError>
+    ensures { Gives (λ o. (o, seen_module «module».new))
+        (constant_override (seen_module «module».old) constant expression) result }
+{
+    if constant.index() >= module.constants.len() {
+        return Err(ReadError::at(alloc, Problem::Unsupported));
+    }
+    let ty = module.constants[constant].ty;
+    added_override(expression, ty, module)
+}
+
+/// A new override of the type of this literal, which the expression is: an integer of 32 bits. The
+/// module has that type from then on.
+fn literal_override(
+    alloc: Global,
+    literal: Literal,
+    expression: Handle<Expression>,
+    module: &mut Module,
+) -> Result<Handle<Override>, ReadError>
+    ensures { Gives (λ o. (o, seen_module «module».new))
+        (literal_override (seen_module «module».old) literal expression) result }
+{
+    match literal {
+        Literal::U32(_) | Literal::I32(_) => typed_override(literal, expression, module),
+        _ => Err(ReadError::at(alloc, Problem::Unsupported)),
+    }
+}
+
+/// The same of any literal.
+fn typed_override(
+    literal: Literal,
+    expression: Handle<Expression>,
+    module: &mut Module,
+) -> Result<Handle<Override>, ReadError>
+    ensures { Gives (λ o. (o, seen_module «module».new))
+        (Some (typed_override (seen_module «module».old) literal expression)) result }
+{
+    let ty = module.types.insert(Type_ {
+        name: None,
+        inner: TypeInner::Scalar(literal.scalar()),
+    })?;
+    added_override(expression, ty, module)
+}
+
+/// A new override without a name, of this type, which the expression initialises.
+fn added_override(
+    expression: Handle<Expression>,
+    ty: Handle<Type_>,
+    module: &mut Module,
+) -> Result<Handle<Override>, ReadError>
+    ensures { Gives (λ o. (o, seen_module «module».new))
+        (Some (added_override (seen_module «module».old) ty expression)) result }
+{
+    Ok(
+        module.overrides.append(Override {
+            name: None,
+            id: None,
+            ty,
+            init: Some(expression),
+        })?,
+    )
 }

@@ -1,10 +1,31 @@
 //! Statements, whose blocks nest.
 
+ghost use Rattle.json.specs.Value.{value_view};
+ghost use Rattle.naga_ir.specs.StatementViews.{tree_of};
+ghost use Rattle.std.specs.Prelude.{Some, map};
+ghost use Rattle.json.specs.Find.{get};
+ghost use Rattle.naga_ir.specs.StatementTree.{BlockTree, no_statements};
+ghost use Rattle.naga_json.specs.Said.{Gives, entry_of, list_said, member_said, or_absent, same};
+ghost use Rattle.naga_json.specs.Statements.{return_said, simple_said, statement_names};
+ghost use Rattle.naga_json.specs.Statements.{block_said, most_levels, statement_said};
+ghost use Rattle.naga_json.specs.Statements.{statement_payload};
+ghost use Rattle.naga_json.specs.Statements.{if_said, loop_said, switch_said, case_said, seen_case};
+ghost use Rattle.naga_json.specs.Statements.{switch_value_names, switch_value_payload};
+ghost use Rattle.naga_json.specs.Statements.{switch_value_said, ray_pipeline_function_names};
+ghost use Rattle.naga_json.specs.Statements.{trace_ray_said, ray_pipeline_function_payload};
+ghost use Rattle.naga_json.specs.Statements.{ray_pipeline_function_said, store_said};
+ghost use Rattle.naga_json.specs.Statements.{image_store_said, atomic_said, image_atomic_said};
+ghost use Rattle.naga_json.specs.Statements.{work_group_uniform_load_said, call_said};
+ghost use Rattle.naga_json.specs.Statements.{ray_query_said, subgroup_ballot_said};
+ghost use Rattle.naga_json.specs.Statements.{subgroup_gather_said};
+ghost use Rattle.naga_json.specs.Statements.{subgroup_collective_operation_said};
+ghost use Rattle.naga_json.specs.Statements.{cooperative_store_said, range_said};
+
 use crate::error::{JsonKind, Problem, ReadError};
 use crate::let_be;
 use crate::shape::{
     FromJson, Variants, entry_named, expect_members, expect_members_beside, in_item, in_member,
-    items_of, member, missing, mistyped, named_variant, read_variant, unit,
+    items_of, member, missing, mistyped, named_variant, optional_member, read_variant, unit,
 };
 use json::Value;
 use naga_ir::{Block, Range, RayPipelineFunction, Statement, SwitchCase, SwitchValue};
@@ -26,6 +47,12 @@ const SWITCH_VALUE_NAMES: &[(&str, SwitchValueName)] = &[
 ];
 
 impl FromJson for SwitchValue {
+    ghost Seen = { Self };
+
+    ghost seen = { same };
+
+    ghost said = { switch_value_said };
+
     fn from_json(alloc: Global, value: &Value) -> Result<SwitchValue, ReadError> {
         read_variant(alloc, value)
     }
@@ -33,6 +60,14 @@ impl FromJson for SwitchValue {
 
 impl Variants for SwitchValue {
     type Name = SwitchValueName;
+
+    ghost Sight = { Self };
+
+    ghost sight = { same };
+
+    ghost table = { switch_value_names };
+
+    ghost payload_said = { switch_value_payload };
 
     fn names() -> &'static [(&'static str, SwitchValueName)] {
         SWITCH_VALUE_NAMES
@@ -64,6 +99,12 @@ const RAY_PIPELINE_FUNCTION_NAMES: &[(&str, RayPipelineFunctionName)] = &[(
 )];
 
 impl FromJson for RayPipelineFunction {
+    ghost Seen = { Self };
+
+    ghost seen = { same };
+
+    ghost said = { ray_pipeline_function_said };
+
     fn from_json(alloc: Global, value: &Value) -> Result<RayPipelineFunction, ReadError> {
         read_variant(alloc, value)
     }
@@ -71,6 +112,14 @@ impl FromJson for RayPipelineFunction {
 
 impl Variants for RayPipelineFunction {
     type Name = RayPipelineFunctionName;
+
+    ghost Sight = { Self };
+
+    ghost sight = { same };
+
+    ghost table = { ray_pipeline_function_names };
+
+    ghost payload_said = { ray_pipeline_function_payload };
 
     fn names() -> &'static [(&'static str, RayPipelineFunctionName)] {
         RAY_PIPELINE_FUNCTION_NAMES
@@ -87,7 +136,9 @@ impl Variants for RayPipelineFunction {
     }
 }
 
-fn trace_ray(alloc: Global, payload: &Value) -> Result<RayPipelineFunction, ReadError> {
+fn trace_ray(alloc: Global, payload: &Value) -> Result<RayPipelineFunction, ReadError>
+    ensures { Gives same (trace_ray_said (value_view payload.now)) result }
+{
     expect_members(
         alloc,
         payload,
@@ -188,8 +239,17 @@ const STATEMENT_NAMES: &[(&str, StatementName)] = &[
     ),
 ];
 
+/// The variant of this name.
+fn statement_named(alloc: Global, name: &str) -> Result<StatementName, ReadError>
+    ensures { Gives same (entry_of statement_names name.now) result }
+{
+    entry_named(alloc, name, STATEMENT_NAMES)
+}
+
 /// A statement without blocks.
-fn simple(alloc: Global, name: SimpleName, payload: &Value) -> Result<Statement, ReadError> {
+fn simple(alloc: Global, name: SimpleName, payload: &Value) -> Result<Statement, ReadError>
+    ensures { Gives tree_of (simple_said name (value_view payload.now)) result }
+{
     match name {
         SimpleName::Emit => Ok(Statement::Emit(FromJson::from_json(alloc, payload)?)),
         SimpleName::Break => unit(alloc, payload, Statement::Break),
@@ -219,17 +279,21 @@ fn simple(alloc: Global, name: SimpleName, payload: &Value) -> Result<Statement,
     }
 }
 
-fn return_of(alloc: Global, payload: &Value) -> Result<Statement, ReadError> {
+fn return_of(alloc: Global, payload: &Value) -> Result<Statement, ReadError>
+    ensures { Gives tree_of (return_said (value_view payload.now)) result }
+{
     if payload.is_null() {
         return Ok(Statement::Return { value: None });
     }
     expect_members(alloc, payload, &["value"])?;
     Ok(Statement::Return {
-        value: member(alloc, payload, "value")?,
+        value: optional_member(alloc, payload, "value")?,
     })
 }
 
-fn store(alloc: Global, payload: &Value) -> Result<Statement, ReadError> {
+fn store(alloc: Global, payload: &Value) -> Result<Statement, ReadError>
+    ensures { Gives tree_of (store_said (value_view payload.now)) result }
+{
     expect_members(alloc, payload, &["pointer", "value"])?;
     Ok(Statement::Store {
         pointer: member(alloc, payload, "pointer")?,
@@ -237,7 +301,9 @@ fn store(alloc: Global, payload: &Value) -> Result<Statement, ReadError> {
     })
 }
 
-fn image_store(alloc: Global, payload: &Value) -> Result<Statement, ReadError> {
+fn image_store(alloc: Global, payload: &Value) -> Result<Statement, ReadError>
+    ensures { Gives tree_of (image_store_said (value_view payload.now)) result }
+{
     expect_members(
         alloc,
         payload,
@@ -246,22 +312,26 @@ fn image_store(alloc: Global, payload: &Value) -> Result<Statement, ReadError> {
     Ok(Statement::ImageStore {
         image: member(alloc, payload, "image")?,
         coordinate: member(alloc, payload, "coordinate")?,
-        array_index: member(alloc, payload, "array_index")?,
+        array_index: optional_member(alloc, payload, "array_index")?,
         value: member(alloc, payload, "value")?,
     })
 }
 
-fn atomic(alloc: Global, payload: &Value) -> Result<Statement, ReadError> {
+fn atomic(alloc: Global, payload: &Value) -> Result<Statement, ReadError>
+    ensures { Gives tree_of (atomic_said (value_view payload.now)) result }
+{
     expect_members(alloc, payload, &["pointer", "fun", "value", "result"])?;
     Ok(Statement::Atomic {
         pointer: member(alloc, payload, "pointer")?,
         fun: member(alloc, payload, "fun")?,
         value: member(alloc, payload, "value")?,
-        result: member(alloc, payload, "result")?,
+        result: optional_member(alloc, payload, "result")?,
     })
 }
 
-fn image_atomic(alloc: Global, payload: &Value) -> Result<Statement, ReadError> {
+fn image_atomic(alloc: Global, payload: &Value) -> Result<Statement, ReadError>
+    ensures { Gives tree_of (image_atomic_said (value_view payload.now)) result }
+{
     expect_members(
         alloc,
         payload,
@@ -270,13 +340,15 @@ fn image_atomic(alloc: Global, payload: &Value) -> Result<Statement, ReadError> 
     Ok(Statement::ImageAtomic {
         image: member(alloc, payload, "image")?,
         coordinate: member(alloc, payload, "coordinate")?,
-        array_index: member(alloc, payload, "array_index")?,
+        array_index: optional_member(alloc, payload, "array_index")?,
         fun: member(alloc, payload, "fun")?,
         value: member(alloc, payload, "value")?,
     })
 }
 
-fn work_group_uniform_load(alloc: Global, payload: &Value) -> Result<Statement, ReadError> {
+fn work_group_uniform_load(alloc: Global, payload: &Value) -> Result<Statement, ReadError>
+    ensures { Gives tree_of (work_group_uniform_load_said (value_view payload.now)) result }
+{
     expect_members(alloc, payload, &["pointer", "result"])?;
     Ok(Statement::WorkGroupUniformLoad {
         pointer: member(alloc, payload, "pointer")?,
@@ -284,31 +356,39 @@ fn work_group_uniform_load(alloc: Global, payload: &Value) -> Result<Statement, 
     })
 }
 
-fn call(alloc: Global, payload: &Value) -> Result<Statement, ReadError> {
+fn call(alloc: Global, payload: &Value) -> Result<Statement, ReadError>
+    ensures { Gives tree_of (call_said (value_view payload.now)) result }
+{
     expect_members(alloc, payload, &["function", "arguments", "result"])?;
     Ok(Statement::Call {
         function: member(alloc, payload, "function")?,
         arguments: member(alloc, payload, "arguments")?,
-        result: member(alloc, payload, "result")?,
+        result: optional_member(alloc, payload, "result")?,
     })
 }
 
-fn ray_query(alloc: Global, payload: &Value) -> Result<Statement, ReadError> {
+fn ray_query(alloc: Global, payload: &Value) -> Result<Statement, ReadError>
+    ensures { Gives tree_of (ray_query_said (value_view payload.now)) result }
+{
     expect_members_beside(alloc, payload, &["query"], let_be::OF_RAY_QUERY)?;
     Ok(Statement::RayQuery {
         query: member(alloc, payload, "query")?,
     })
 }
 
-fn subgroup_ballot(alloc: Global, payload: &Value) -> Result<Statement, ReadError> {
+fn subgroup_ballot(alloc: Global, payload: &Value) -> Result<Statement, ReadError>
+    ensures { Gives tree_of (subgroup_ballot_said (value_view payload.now)) result }
+{
     expect_members(alloc, payload, &["result", "predicate"])?;
     Ok(Statement::SubgroupBallot {
         result: member(alloc, payload, "result")?,
-        predicate: member(alloc, payload, "predicate")?,
+        predicate: optional_member(alloc, payload, "predicate")?,
     })
 }
 
-fn subgroup_gather(alloc: Global, payload: &Value) -> Result<Statement, ReadError> {
+fn subgroup_gather(alloc: Global, payload: &Value) -> Result<Statement, ReadError>
+    ensures { Gives tree_of (subgroup_gather_said (value_view payload.now)) result }
+{
     expect_members(alloc, payload, &["mode", "argument", "result"])?;
     Ok(Statement::SubgroupGather {
         mode: member(alloc, payload, "mode")?,
@@ -317,7 +397,9 @@ fn subgroup_gather(alloc: Global, payload: &Value) -> Result<Statement, ReadErro
     })
 }
 
-fn subgroup_collective_operation(alloc: Global, payload: &Value) -> Result<Statement, ReadError> {
+fn subgroup_collective_operation(alloc: Global, payload: &Value) -> Result<Statement, ReadError>
+    ensures { Gives tree_of (subgroup_collective_operation_said (value_view payload.now)) result }
+{
     expect_members(
         alloc,
         payload,
@@ -331,7 +413,9 @@ fn subgroup_collective_operation(alloc: Global, payload: &Value) -> Result<State
     })
 }
 
-fn cooperative_store(alloc: Global, payload: &Value) -> Result<Statement, ReadError> {
+fn cooperative_store(alloc: Global, payload: &Value) -> Result<Statement, ReadError>
+    ensures { Gives tree_of (cooperative_store_said (value_view payload.now)) result }
+{
     expect_members(alloc, payload, &["target", "data"])?;
     Ok(Statement::CooperativeStore {
         target: member(alloc, payload, "target")?,
@@ -343,6 +427,12 @@ fn cooperative_store(alloc: Global, payload: &Value) -> Result<Statement, ReadEr
 const MOST_LEVELS: u32 = 64;
 
 impl FromJson for Range {
+    ghost Seen = { Self };
+
+    ghost seen = { same };
+
+    ghost said = { range_said };
+
     fn from_json(alloc: Global, value: &Value) -> Result<Range, ReadError> {
         expect_members(alloc, value, &["start", "end"])?;
         Ok(Range {
@@ -353,6 +443,12 @@ impl FromJson for Range {
 }
 
 impl FromJson for Block {
+    ghost Seen = { BlockTree };
+
+    ghost seen = { same };
+
+    ghost said = { block_said most_levels };
+
     fn from_json(alloc: Global, value: &Value) -> Result<Block, ReadError> {
         block(alloc, value, MOST_LEVELS)
     }
@@ -360,25 +456,29 @@ impl FromJson for Block {
 
 /// The block, whose blocks nest at most `levels` deep.
 #[cycle(statements)]
-fn block(alloc: Global, value: &Value, levels: u32) -> Result<Block, ReadError> {
+fn block(alloc: Global, value: &Value, levels: u32) -> Result<Block, ReadError>
+    ensures { Gives same (block_said levels (value_view value.now)) result }
+{
     let items = items_of(alloc, value)?;
     if levels == 0 {
         return Err(ReadError::at(alloc, Problem::TooDeep));
     }
-    let mut read = Block::new(alloc);
+    let mut read = Vec::new(alloc);
     for (index, item) in items.iter().enumerate() {
         read.push(in_item(alloc, index, statement(alloc, item, levels - 1))?)?;
     }
-    Ok(read)
+    Ok(Block::from_vec(read))
 }
 
 #[cycle(statements)]
-fn statement(alloc: Global, value: &Value, levels: u32) -> Result<Statement, ReadError> {
+fn statement(alloc: Global, value: &Value, levels: u32) -> Result<Statement, ReadError>
+    ensures { Gives tree_of (statement_said (block_said levels) (value_view value.now)) result }
+{
     let null = Value::Null;
     let Some(found) = named_variant(&*value, &null) else {
         return Err(mistyped(alloc, JsonKind::Variant));
     };
-    let name = entry_named(alloc, found.name, STATEMENT_NAMES)?;
+    let name = statement_named(alloc, found.name)?;
     in_member(
         alloc,
         found.name,
@@ -392,7 +492,10 @@ fn named_statement(
     name: StatementName,
     payload: &Value,
     levels: u32,
-) -> Result<Statement, ReadError> {
+) -> Result<Statement, ReadError>
+    ensures { Gives tree_of
+        (statement_payload (block_said levels) name (value_view payload.now)) result }
+{
     match name {
         StatementName::Block => Ok(Statement::Block(block(alloc, payload, levels)?)),
         StatementName::If => if_else(alloc, payload, levels),
@@ -404,12 +507,10 @@ fn named_statement(
 
 /// The block that is the member of this name.
 #[cycle(statements)]
-fn member_block(
-    alloc: Global,
-    payload: &Value,
-    name: &str,
-    levels: u32,
-) -> Result<Block, ReadError> {
+fn member_block(alloc: Global, payload: &Value, name: &str, levels: u32) -> Result<Block, ReadError>
+    ensures { Gives same
+        (member_said (block_said levels) name.now (value_view payload.now)) result }
+{
     match payload.get(name) {
         Some(found) => in_member(alloc, name, block(alloc, found, levels)),
         None => in_member(alloc, name, Err(missing(alloc))),
@@ -423,7 +524,10 @@ fn block_if_told(
     payload: &Value,
     name: &str,
     levels: u32,
-) -> Result<Block, ReadError> {
+) -> Result<Block, ReadError>
+    ensures { Gives same (or_absent (block_said levels) (Some no_statements)
+        (get name.now (value_view payload.now))) result }
+{
     match payload.get(name) {
         Some(found) => in_member(alloc, name, block(alloc, found, levels)),
         None => Ok(Block::new(alloc)),
@@ -431,7 +535,9 @@ fn block_if_told(
 }
 
 #[cycle(statements)]
-fn if_else(alloc: Global, payload: &Value, levels: u32) -> Result<Statement, ReadError> {
+fn if_else(alloc: Global, payload: &Value, levels: u32) -> Result<Statement, ReadError>
+    ensures { Gives tree_of (if_said (block_said levels) (value_view payload.now)) result }
+{
     expect_members(alloc, payload, &["condition", "accept", "reject"])?;
     let condition = member(alloc, payload, "condition")?;
     let accept = member_block(alloc, payload, "accept", levels)?;
@@ -444,9 +550,11 @@ fn if_else(alloc: Global, payload: &Value, levels: u32) -> Result<Statement, Rea
 }
 
 #[cycle(statements)]
-fn loop_of(alloc: Global, payload: &Value, levels: u32) -> Result<Statement, ReadError> {
+fn loop_of(alloc: Global, payload: &Value, levels: u32) -> Result<Statement, ReadError>
+    ensures { Gives tree_of (loop_said (block_said levels) (value_view payload.now)) result }
+{
     expect_members(alloc, payload, &["break_if", "body", "continuing"])?;
-    let break_if = member(alloc, payload, "break_if")?;
+    let break_if = optional_member(alloc, payload, "break_if")?;
     let body = member_block(alloc, payload, "body", levels)?;
     let continuing = block_if_told(alloc, payload, "continuing", levels)?;
     Ok(Statement::Loop {
@@ -457,7 +565,9 @@ fn loop_of(alloc: Global, payload: &Value, levels: u32) -> Result<Statement, Rea
 }
 
 #[cycle(statements)]
-fn switch(alloc: Global, payload: &Value, levels: u32) -> Result<Statement, ReadError> {
+fn switch(alloc: Global, payload: &Value, levels: u32) -> Result<Statement, ReadError>
+    ensures { Gives tree_of (switch_said (block_said levels) (value_view payload.now)) result }
+{
     expect_members(alloc, payload, &["selector", "cases"])?;
     let selector = member(alloc, payload, "selector")?;
     let cases = match payload.get("cases") {
@@ -471,7 +581,10 @@ fn switch(alloc: Global, payload: &Value, levels: u32) -> Result<Statement, Read
 }
 
 #[cycle(statements)]
-fn cases_of(alloc: Global, value: &Value, levels: u32) -> Result<Vec<SwitchCase>, ReadError> {
+fn cases_of(alloc: Global, value: &Value, levels: u32) -> Result<Vec<SwitchCase>, ReadError>
+    ensures { Gives (λ cases. map seen_case cases.items)
+        (list_said (case_said (block_said levels)) (value_view value.now)) result }
+{
     let items = items_of(alloc, value)?;
     let mut read = Vec::new(alloc);
     for (index, item) in items.iter().enumerate() {
@@ -481,10 +594,12 @@ fn cases_of(alloc: Global, value: &Value, levels: u32) -> Result<Vec<SwitchCase>
 }
 
 #[cycle(statements)]
-fn case_of(alloc: Global, payload: &Value, levels: u32) -> Result<SwitchCase, ReadError> {
+fn case_of(alloc: Global, payload: &Value, levels: u32) -> Result<SwitchCase, ReadError>
+    ensures { Gives seen_case (case_said (block_said levels) (value_view payload.now)) result }
+{
     expect_members(alloc, payload, &["value", "fall_through", "body"])?;
     let value = member(alloc, payload, "value")?;
-    let fall_through = member(alloc, payload, "fall_through")?;
+    let fall_through = optional_member(alloc, payload, "fall_through")?;
     let body = member_block(alloc, payload, "body", levels)?;
     Ok(SwitchCase {
         value,

@@ -1,16 +1,42 @@
 //! Types, and the sets of flags.
 
-use crate::error::{JsonKind, Problem, ReadError};
+ghost use Rattle.json.specs.Value.{value_view};
+ghost use Rattle.naga_json.specs.Said.{Gives, same};
+ghost use Rattle.naga_json.specs.Seen.{SeenInner, SeenMember, SeenType, seen_inner, seen_member};
+ghost use Rattle.naga_json.specs.Seen.{seen_type};
+ghost use Rattle.naga_json.specs.Types.{vector_size_said, cooperative_size_said};
+ghost use Rattle.naga_json.specs.Types.{cooperative_role_said, scalar_kind_said, scalar_said};
+ghost use Rattle.naga_json.specs.Types.{address_space_names, space_storage_said};
+ghost use Rattle.naga_json.specs.Types.{address_space_payload, address_space_said};
+ghost use Rattle.naga_json.specs.Types.{predeclared_type_names, predeclared_modf_result_said};
+ghost use Rattle.naga_json.specs.Types.{predeclared_frexp_result_said, predeclared_type_payload};
+ghost use Rattle.naga_json.specs.Types.{predeclared_type_said, struct_member_said};
+ghost use Rattle.naga_json.specs.Types.{type_inner_names, vector_type_said, matrix_type_said};
+ghost use Rattle.naga_json.specs.Types.{cooperative_matrix_type_said, pointer_type_said};
+ghost use Rattle.naga_json.specs.Types.{value_pointer_type_said, array_size_names};
+ghost use Rattle.naga_json.specs.Types.{array_size_payload, array_size_said, array_of_type_said};
+ghost use Rattle.naga_json.specs.Types.{struct_type_said, image_dimension_said, image_class_names};
+ghost use Rattle.naga_json.specs.Types.{class_sampled_said, class_depth_said, storage_format_said};
+ghost use Rattle.naga_json.specs.Types.{class_storage_said, image_class_payload, image_class_said};
+ghost use Rattle.naga_json.specs.Types.{image_type_said, sampler_type_said};
+ghost use Rattle.naga_json.specs.Types.{acceleration_structure_type_said, ray_query_type_said};
+ghost use Rattle.naga_json.specs.Types.{binding_array_type_said, type_inner_payload};
+ghost use Rattle.naga_json.specs.Types.{type_inner_said, type_said};
+ghost use Rattle.naga_json.specs.Flags.{flags_said, storage_access_said, memory_decorations_said};
+ghost use Rattle.naga_json.specs.Flags.{barrier_said, no_decorations};
+ghost use Rattle.naga_json.specs.Numbers.{constant_size_said};
+
+use crate::error::{Problem, ReadError};
 use crate::shape::{
-    FromJson, Variants, expect_members, in_item, item_of, items_of, member, mistyped, read_variant,
-    unit, unknown, word,
+    FromJson, MayBeAbsent, Variants, expect_members, member, optional_member, read_variant, unit,
+    unknown, word,
 };
 use bitflags::{Flags, parser};
 use json::Value;
 use naga_ir::{
     AddressSpace, ArraySize, Barrier, CooperativeRole, CooperativeSize, ImageClass, ImageDimension,
     MemoryDecorations, PredeclaredType, Scalar, ScalarKind, StorageAccess, StorageFormat,
-    StructMember, Type_, TypeInner, UniqueArena, VectorSize,
+    StructMember, Type_, TypeInner, VectorSize,
 };
 use std::alloc::Global;
 use std::num::NonZeroU32;
@@ -23,6 +49,12 @@ const VECTOR_SIZE_WORDS: &[(&str, VectorSize)] = &[
 ];
 
 impl FromJson for VectorSize {
+    ghost Seen = { Self };
+
+    ghost seen = { same };
+
+    ghost said = { vector_size_said };
+
     fn from_json(alloc: Global, value: &Value) -> Result<VectorSize, ReadError> {
         word(alloc, value, VECTOR_SIZE_WORDS)
     }
@@ -35,6 +67,12 @@ const COOPERATIVE_SIZE_WORDS: &[(&str, CooperativeSize)] = &[
 ];
 
 impl FromJson for CooperativeSize {
+    ghost Seen = { Self };
+
+    ghost seen = { same };
+
+    ghost said = { cooperative_size_said };
+
     fn from_json(alloc: Global, value: &Value) -> Result<CooperativeSize, ReadError> {
         word(alloc, value, COOPERATIVE_SIZE_WORDS)
     }
@@ -48,6 +86,12 @@ const COOPERATIVE_ROLE_WORDS: &[(&str, CooperativeRole)] = &[
 ];
 
 impl FromJson for CooperativeRole {
+    ghost Seen = { Self };
+
+    ghost seen = { same };
+
+    ghost said = { cooperative_role_said };
+
     fn from_json(alloc: Global, value: &Value) -> Result<CooperativeRole, ReadError> {
         word(alloc, value, COOPERATIVE_ROLE_WORDS)
     }
@@ -64,12 +108,24 @@ const SCALAR_KIND_WORDS: &[(&str, ScalarKind)] = &[
 ];
 
 impl FromJson for ScalarKind {
+    ghost Seen = { Self };
+
+    ghost seen = { same };
+
+    ghost said = { scalar_kind_said };
+
     fn from_json(alloc: Global, value: &Value) -> Result<ScalarKind, ReadError> {
         word(alloc, value, SCALAR_KIND_WORDS)
     }
 }
 
 impl FromJson for Scalar {
+    ghost Seen = { Self };
+
+    ghost seen = { same };
+
+    ghost said = { scalar_said };
+
     fn from_json(alloc: Global, payload: &Value) -> Result<Scalar, ReadError> {
         expect_members(alloc, payload, &["kind", "width"])?;
         Ok(Scalar {
@@ -110,6 +166,12 @@ const ADDRESS_SPACE_NAMES: &[(&str, AddressSpaceName)] = &[
 ];
 
 impl FromJson for AddressSpace {
+    ghost Seen = { Self };
+
+    ghost seen = { same };
+
+    ghost said = { address_space_said };
+
     fn from_json(alloc: Global, value: &Value) -> Result<AddressSpace, ReadError> {
         read_variant(alloc, value)
     }
@@ -117,6 +179,14 @@ impl FromJson for AddressSpace {
 
 impl Variants for AddressSpace {
     type Name = AddressSpaceName;
+
+    ghost Sight = { Self };
+
+    ghost sight = { same };
+
+    ghost table = { address_space_names };
+
+    ghost payload_said = { address_space_payload };
 
     fn names() -> &'static [(&'static str, AddressSpaceName)] {
         ADDRESS_SPACE_NAMES
@@ -134,7 +204,9 @@ impl Variants for AddressSpace {
     }
 }
 
-fn space_storage(alloc: Global, payload: &Value) -> Result<AddressSpace, ReadError> {
+fn space_storage(alloc: Global, payload: &Value) -> Result<AddressSpace, ReadError>
+    ensures { Gives same (space_storage_said (value_view payload.now)) result }
+{
     expect_members(alloc, payload, &["access"])?;
     Ok(AddressSpace::Storage {
         access: member(alloc, payload, "access")?,
@@ -160,6 +232,12 @@ const PREDECLARED_TYPE_NAMES: &[(&str, PredeclaredTypeName)] = &[
 ];
 
 impl FromJson for PredeclaredType {
+    ghost Seen = { Self };
+
+    ghost seen = { same };
+
+    ghost said = { predeclared_type_said };
+
     fn from_json(alloc: Global, value: &Value) -> Result<PredeclaredType, ReadError> {
         read_variant(alloc, value)
     }
@@ -167,6 +245,14 @@ impl FromJson for PredeclaredType {
 
 impl Variants for PredeclaredType {
     type Name = PredeclaredTypeName;
+
+    ghost Sight = { Self };
+
+    ghost sight = { same };
+
+    ghost table = { predeclared_type_names };
+
+    ghost payload_said = { predeclared_type_payload };
 
     fn names() -> &'static [(&'static str, PredeclaredTypeName)] {
         PREDECLARED_TYPE_NAMES
@@ -189,29 +275,39 @@ impl Variants for PredeclaredType {
     }
 }
 
-fn predeclared_modf_result(alloc: Global, payload: &Value) -> Result<PredeclaredType, ReadError> {
+fn predeclared_modf_result(alloc: Global, payload: &Value) -> Result<PredeclaredType, ReadError>
+    ensures { Gives same (predeclared_modf_result_said (value_view payload.now)) result }
+{
     expect_members(alloc, payload, &["size", "scalar"])?;
     Ok(PredeclaredType::ModfResult {
-        size: member(alloc, payload, "size")?,
+        size: optional_member(alloc, payload, "size")?,
         scalar: member(alloc, payload, "scalar")?,
     })
 }
 
-fn predeclared_frexp_result(alloc: Global, payload: &Value) -> Result<PredeclaredType, ReadError> {
+fn predeclared_frexp_result(alloc: Global, payload: &Value) -> Result<PredeclaredType, ReadError>
+    ensures { Gives same (predeclared_frexp_result_said (value_view payload.now)) result }
+{
     expect_members(alloc, payload, &["size", "scalar"])?;
     Ok(PredeclaredType::FrexpResult {
-        size: member(alloc, payload, "size")?,
+        size: optional_member(alloc, payload, "size")?,
         scalar: member(alloc, payload, "scalar")?,
     })
 }
 
 impl FromJson for StructMember {
+    ghost Seen = { SeenMember };
+
+    ghost seen = { seen_member };
+
+    ghost said = { struct_member_said };
+
     fn from_json(alloc: Global, payload: &Value) -> Result<StructMember, ReadError> {
         expect_members(alloc, payload, &["name", "ty", "binding", "offset"])?;
         Ok(StructMember {
-            name: member(alloc, payload, "name")?,
+            name: optional_member(alloc, payload, "name")?,
             ty: member(alloc, payload, "ty")?,
-            binding: member(alloc, payload, "binding")?,
+            binding: optional_member(alloc, payload, "binding")?,
             offset: member(alloc, payload, "offset")?,
         })
     }
@@ -258,6 +354,12 @@ const TYPE_INNER_NAMES: &[(&str, TypeInnerName)] = &[
 ];
 
 impl FromJson for TypeInner {
+    ghost Seen = { SeenInner };
+
+    ghost seen = { seen_inner };
+
+    ghost said = { type_inner_said };
+
     fn from_json(alloc: Global, value: &Value) -> Result<TypeInner, ReadError> {
         read_variant(alloc, value)
     }
@@ -265,6 +367,14 @@ impl FromJson for TypeInner {
 
 impl Variants for TypeInner {
     type Name = TypeInnerName;
+
+    ghost Sight = { SeenInner };
+
+    ghost sight = { seen_inner };
+
+    ghost table = { type_inner_names };
+
+    ghost payload_said = { type_inner_payload };
 
     fn names() -> &'static [(&'static str, TypeInnerName)] {
         TYPE_INNER_NAMES
@@ -294,7 +404,9 @@ impl Variants for TypeInner {
     }
 }
 
-fn vector_type(alloc: Global, payload: &Value) -> Result<TypeInner, ReadError> {
+fn vector_type(alloc: Global, payload: &Value) -> Result<TypeInner, ReadError>
+    ensures { Gives seen_inner (vector_type_said (value_view payload.now)) result }
+{
     expect_members(alloc, payload, &["size", "scalar"])?;
     Ok(TypeInner::Vector {
         size: member(alloc, payload, "size")?,
@@ -302,7 +414,9 @@ fn vector_type(alloc: Global, payload: &Value) -> Result<TypeInner, ReadError> {
     })
 }
 
-fn matrix_type(alloc: Global, payload: &Value) -> Result<TypeInner, ReadError> {
+fn matrix_type(alloc: Global, payload: &Value) -> Result<TypeInner, ReadError>
+    ensures { Gives seen_inner (matrix_type_said (value_view payload.now)) result }
+{
     expect_members(alloc, payload, &["columns", "rows", "scalar"])?;
     Ok(TypeInner::Matrix {
         columns: member(alloc, payload, "columns")?,
@@ -311,7 +425,9 @@ fn matrix_type(alloc: Global, payload: &Value) -> Result<TypeInner, ReadError> {
     })
 }
 
-fn cooperative_matrix_type(alloc: Global, payload: &Value) -> Result<TypeInner, ReadError> {
+fn cooperative_matrix_type(alloc: Global, payload: &Value) -> Result<TypeInner, ReadError>
+    ensures { Gives seen_inner (cooperative_matrix_type_said (value_view payload.now)) result }
+{
     expect_members(alloc, payload, &["columns", "rows", "scalar", "role"])?;
     Ok(TypeInner::CooperativeMatrix {
         columns: member(alloc, payload, "columns")?,
@@ -321,7 +437,9 @@ fn cooperative_matrix_type(alloc: Global, payload: &Value) -> Result<TypeInner, 
     })
 }
 
-fn pointer_type(alloc: Global, payload: &Value) -> Result<TypeInner, ReadError> {
+fn pointer_type(alloc: Global, payload: &Value) -> Result<TypeInner, ReadError>
+    ensures { Gives seen_inner (pointer_type_said (value_view payload.now)) result }
+{
     expect_members(alloc, payload, &["base", "space"])?;
     Ok(TypeInner::Pointer {
         base: member(alloc, payload, "base")?,
@@ -329,16 +447,20 @@ fn pointer_type(alloc: Global, payload: &Value) -> Result<TypeInner, ReadError> 
     })
 }
 
-fn value_pointer_type(alloc: Global, payload: &Value) -> Result<TypeInner, ReadError> {
+fn value_pointer_type(alloc: Global, payload: &Value) -> Result<TypeInner, ReadError>
+    ensures { Gives seen_inner (value_pointer_type_said (value_view payload.now)) result }
+{
     expect_members(alloc, payload, &["size", "scalar", "space"])?;
     Ok(TypeInner::ValuePointer {
-        size: member(alloc, payload, "size")?,
+        size: optional_member(alloc, payload, "size")?,
         scalar: member(alloc, payload, "scalar")?,
         space: member(alloc, payload, "space")?,
     })
 }
 
-fn array_of_type(alloc: Global, payload: &Value) -> Result<TypeInner, ReadError> {
+fn array_of_type(alloc: Global, payload: &Value) -> Result<TypeInner, ReadError>
+    ensures { Gives seen_inner (array_of_type_said (value_view payload.now)) result }
+{
     expect_members(alloc, payload, &["base", "size", "stride"])?;
     Ok(TypeInner::Array {
         base: member(alloc, payload, "base")?,
@@ -347,7 +469,9 @@ fn array_of_type(alloc: Global, payload: &Value) -> Result<TypeInner, ReadError>
     })
 }
 
-fn struct_type(alloc: Global, payload: &Value) -> Result<TypeInner, ReadError> {
+fn struct_type(alloc: Global, payload: &Value) -> Result<TypeInner, ReadError>
+    ensures { Gives seen_inner (struct_type_said (value_view payload.now)) result }
+{
     expect_members(alloc, payload, &["members", "span"])?;
     Ok(TypeInner::Struct {
         members: member(alloc, payload, "members")?,
@@ -355,37 +479,47 @@ fn struct_type(alloc: Global, payload: &Value) -> Result<TypeInner, ReadError> {
     })
 }
 
-fn image_type(alloc: Global, payload: &Value) -> Result<TypeInner, ReadError> {
+fn image_type(alloc: Global, payload: &Value) -> Result<TypeInner, ReadError>
+    ensures { Gives seen_inner (image_type_said (value_view payload.now)) result }
+{
     expect_members(alloc, payload, &["dim", "arrayed", "class"])?;
     Ok(TypeInner::Image {
         dim: member(alloc, payload, "dim")?,
-        arrayed: member(alloc, payload, "arrayed")?,
+        arrayed: optional_member(alloc, payload, "arrayed")?,
         class: member(alloc, payload, "class")?,
     })
 }
 
-fn sampler_type(alloc: Global, payload: &Value) -> Result<TypeInner, ReadError> {
+fn sampler_type(alloc: Global, payload: &Value) -> Result<TypeInner, ReadError>
+    ensures { Gives seen_inner (sampler_type_said (value_view payload.now)) result }
+{
     expect_members(alloc, payload, &["comparison"])?;
     Ok(TypeInner::Sampler {
-        comparison: member(alloc, payload, "comparison")?,
+        comparison: optional_member(alloc, payload, "comparison")?,
     })
 }
 
-fn acceleration_structure_type(alloc: Global, payload: &Value) -> Result<TypeInner, ReadError> {
+fn acceleration_structure_type(alloc: Global, payload: &Value) -> Result<TypeInner, ReadError>
+    ensures { Gives seen_inner (acceleration_structure_type_said (value_view payload.now)) result }
+{
     expect_members(alloc, payload, &["vertex_return"])?;
     Ok(TypeInner::AccelerationStructure {
-        vertex_return: member(alloc, payload, "vertex_return")?,
+        vertex_return: optional_member(alloc, payload, "vertex_return")?,
     })
 }
 
-fn ray_query_type(alloc: Global, payload: &Value) -> Result<TypeInner, ReadError> {
+fn ray_query_type(alloc: Global, payload: &Value) -> Result<TypeInner, ReadError>
+    ensures { Gives seen_inner (ray_query_type_said (value_view payload.now)) result }
+{
     expect_members(alloc, payload, &["vertex_return"])?;
     Ok(TypeInner::RayQuery {
-        vertex_return: member(alloc, payload, "vertex_return")?,
+        vertex_return: optional_member(alloc, payload, "vertex_return")?,
     })
 }
 
-fn binding_array_type(alloc: Global, payload: &Value) -> Result<TypeInner, ReadError> {
+fn binding_array_type(alloc: Global, payload: &Value) -> Result<TypeInner, ReadError>
+    ensures { Gives seen_inner (binding_array_type_said (value_view payload.now)) result }
+{
     expect_members(alloc, payload, &["base", "size"])?;
     Ok(TypeInner::BindingArray {
         base: member(alloc, payload, "base")?,
@@ -394,10 +528,16 @@ fn binding_array_type(alloc: Global, payload: &Value) -> Result<TypeInner, ReadE
 }
 
 impl FromJson for Type_ {
+    ghost Seen = { SeenType };
+
+    ghost seen = { seen_type };
+
+    ghost said = { type_said };
+
     fn from_json(alloc: Global, payload: &Value) -> Result<Type_, ReadError> {
         expect_members(alloc, payload, &["name", "inner"])?;
         Ok(Type_ {
-            name: member(alloc, payload, "name")?,
+            name: optional_member(alloc, payload, "name")?,
             inner: member(alloc, payload, "inner")?,
         })
     }
@@ -412,6 +552,12 @@ const IMAGE_DIMENSION_WORDS: &[(&str, ImageDimension)] = &[
 ];
 
 impl FromJson for ImageDimension {
+    ghost Seen = { Self };
+
+    ghost seen = { same };
+
+    ghost said = { image_dimension_said };
+
     fn from_json(alloc: Global, value: &Value) -> Result<ImageDimension, ReadError> {
         word(alloc, value, IMAGE_DIMENSION_WORDS)
     }
@@ -435,6 +581,12 @@ const IMAGE_CLASS_NAMES: &[(&str, ImageClassName)] = &[
 ];
 
 impl FromJson for ImageClass {
+    ghost Seen = { Self };
+
+    ghost seen = { same };
+
+    ghost said = { image_class_said };
+
     fn from_json(alloc: Global, value: &Value) -> Result<ImageClass, ReadError> {
         read_variant(alloc, value)
     }
@@ -442,6 +594,14 @@ impl FromJson for ImageClass {
 
 impl Variants for ImageClass {
     type Name = ImageClassName;
+
+    ghost Sight = { Self };
+
+    ghost sight = { same };
+
+    ghost table = { image_class_names };
+
+    ghost payload_said = { image_class_payload };
 
     fn names() -> &'static [(&'static str, ImageClassName)] {
         IMAGE_CLASS_NAMES
@@ -461,22 +621,28 @@ impl Variants for ImageClass {
     }
 }
 
-fn class_sampled(alloc: Global, payload: &Value) -> Result<ImageClass, ReadError> {
+fn class_sampled(alloc: Global, payload: &Value) -> Result<ImageClass, ReadError>
+    ensures { Gives same (class_sampled_said (value_view payload.now)) result }
+{
     expect_members(alloc, payload, &["kind", "multi"])?;
     Ok(ImageClass::Sampled {
         kind: member(alloc, payload, "kind")?,
-        multi: member(alloc, payload, "multi")?,
+        multi: optional_member(alloc, payload, "multi")?,
     })
 }
 
-fn class_depth(alloc: Global, payload: &Value) -> Result<ImageClass, ReadError> {
+fn class_depth(alloc: Global, payload: &Value) -> Result<ImageClass, ReadError>
+    ensures { Gives same (class_depth_said (value_view payload.now)) result }
+{
     expect_members(alloc, payload, &["multi"])?;
     Ok(ImageClass::Depth {
-        multi: member(alloc, payload, "multi")?,
+        multi: optional_member(alloc, payload, "multi")?,
     })
 }
 
-fn class_storage(alloc: Global, payload: &Value) -> Result<ImageClass, ReadError> {
+fn class_storage(alloc: Global, payload: &Value) -> Result<ImageClass, ReadError>
+    ensures { Gives same (class_storage_said (value_view payload.now)) result }
+{
     expect_members(alloc, payload, &["format", "access"])?;
     Ok(ImageClass::Storage {
         format: member(alloc, payload, "format")?,
@@ -530,6 +696,12 @@ const STORAGE_FORMAT_WORDS: &[(&str, StorageFormat)] = &[
 ];
 
 impl FromJson for StorageFormat {
+    ghost Seen = { Self };
+
+    ghost seen = { same };
+
+    ghost said = { storage_format_said };
+
     fn from_json(alloc: Global, value: &Value) -> Result<StorageFormat, ReadError> {
         word(alloc, value, STORAGE_FORMAT_WORDS)
     }
@@ -551,6 +723,12 @@ const ARRAY_SIZE_NAMES: &[(&str, ArraySizeName)] = &[
 ];
 
 impl FromJson for ArraySize {
+    ghost Seen = { Self };
+
+    ghost seen = { same };
+
+    ghost said = { array_size_said };
+
     fn from_json(alloc: Global, value: &Value) -> Result<ArraySize, ReadError> {
         read_variant(alloc, value)
     }
@@ -558,6 +736,14 @@ impl FromJson for ArraySize {
 
 impl Variants for ArraySize {
     type Name = ArraySizeName;
+
+    ghost Sight = { Self };
+
+    ghost sight = { same };
+
+    ghost table = { array_size_names };
+
+    ghost payload_said = { array_size_payload };
 
     fn names() -> &'static [(&'static str, ArraySizeName)] {
         ARRAY_SIZE_NAMES
@@ -576,7 +762,9 @@ impl Variants for ArraySize {
     }
 }
 
-fn constant_size(alloc: Global, payload: &Value) -> Result<ArraySize, ReadError> {
+fn constant_size(alloc: Global, payload: &Value) -> Result<ArraySize, ReadError>
+    ensures { Gives same (constant_size_said (value_view payload.now)) result }
+{
     match NonZeroU32::new(u32::from_json(alloc, payload)?) {
         Some(count) => Ok(ArraySize::Constant(count)),
         None => Err(ReadError::at(alloc, Problem::OutOfRange)),
@@ -584,7 +772,10 @@ fn constant_size(alloc: Global, payload: &Value) -> Result<ArraySize, ReadError>
 }
 
 /// A set of flags: the text of their names with bars between them, or their bits.
-fn flags<T: Flags<Bits = u32>>(alloc: Global, value: &Value) -> Result<T, ReadError> {
+fn flags<T: Flags<Bits = u32>>(alloc: Global, value: &Value) -> Result<T, ReadError>
+    requires { T.exact }
+    ensures { Gives T.set_of (flags_said T.table (value_view value.now)) result }
+{
     match value.as_str() {
         Some(text) => match parser::from_str_strict(text) {
             Ok(found) => Ok(found),
@@ -598,37 +789,45 @@ fn flags<T: Flags<Bits = u32>>(alloc: Global, value: &Value) -> Result<T, ReadEr
 }
 
 impl FromJson for StorageAccess {
+    ghost Seen = { Self };
+
+    ghost seen = { same };
+
+    ghost said = { storage_access_said };
+
     fn from_json(alloc: Global, value: &Value) -> Result<StorageAccess, ReadError> {
         flags(alloc, value)
     }
 }
 
 impl FromJson for MemoryDecorations {
+    ghost Seen = { Self };
+
+    ghost seen = { same };
+
+    ghost said = { memory_decorations_said };
+
     fn from_json(alloc: Global, value: &Value) -> Result<MemoryDecorations, ReadError> {
         flags(alloc, value)
     }
+}
 
-    fn absent(_alloc: Global) -> Option<MemoryDecorations> {
-        Some(MemoryDecorations::empty())
+impl MayBeAbsent for MemoryDecorations {
+    ghost absent_said = { no_decorations };
+
+    fn absent(_alloc: Global) -> MemoryDecorations {
+        MemoryDecorations::empty()
     }
 }
 
 impl FromJson for Barrier {
+    ghost Seen = { Self };
+
+    ghost seen = { same };
+
+    ghost said = { barrier_said };
+
     fn from_json(alloc: Global, value: &Value) -> Result<Barrier, ReadError> {
         flags(alloc, value)
-    }
-}
-
-impl FromJson for UniqueArena<Type_> {
-    fn from_json(alloc: Global, value: &Value) -> Result<UniqueArena<Type_>, ReadError> {
-        let items = items_of(alloc, value)?;
-        let mut read = UniqueArena::new(alloc);
-        for (index, item) in items.iter().enumerate() {
-            let handle = read.insert(item_of(alloc, item, index)?)?;
-            if handle.index() != index {
-                return in_item(alloc, index, Err(ReadError::at(alloc, Problem::Doubled)));
-            }
-        }
-        Ok(read)
     }
 }

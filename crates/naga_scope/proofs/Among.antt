@@ -1,4 +1,5 @@
 -- A handle of a list, by a test and by its place.
+-- Serves `argument_without_form`, `emitted_without_form`, `of` and `of_function`.
 use Rattle.std.proofs.Common.{◌≡◌, ◌⊎◌, inl, inr, ℕ, zero, suc, Bool, true, false, List, [], ◌∷◌, refl, sym, ap}
 use Rattle.std.proofs.Common.{◌∙◌, Some, arith, nat_eq, eqb-true, slice_get}
 use Rattle.std.specs.List.{IsAmong, flat_map}

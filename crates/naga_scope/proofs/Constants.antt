@@ -1,5 +1,6 @@
 -- Which expressions are in scope from the start, by one pass over a function's expressions in their
 -- order.
+-- Serves 7 contracts, `restart` among them.
 use Rattle.std.proofs.Common.{◌≡◌, ◌+◌, ◌<◌, ◌≤◌, ◌&&◌, ◌||◌, ◌∙◌, ℕ, zero, suc, Bool, true, false}
 use Rattle.std.proofs.Common.{List, [], ◌∷◌, Option, Some, None, ap, ap₂, arith, below_more, get_or}
 use Rattle.std.proofs.Common.{length, nat_lt, refl, slice_set, subst, sym}

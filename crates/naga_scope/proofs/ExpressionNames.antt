@@ -1,4 +1,5 @@
 -- Labels that are named one after another.
+-- Serves 5 contracts, `expression_names` among them.
 use Rattle.std.proofs.Common.{◌≡◌, ◌≤◌, ◌^◌, ◌++◌, ◌∙◌, ℕ, List, [], ◌∷◌, append-nil, append_assoc}
 use Rattle.std.proofs.Common.{ap, refl, arith, length-append, subst, sym}
 use Rattle.std.specs.Prelude.{Err, Ok, OnOk, Result}

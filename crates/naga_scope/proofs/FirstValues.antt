@@ -1,4 +1,5 @@
 -- The first values of locals, each in scope after the locals before it.
+-- Serves `check_first_value` and `first_value_holds`.
 use Rattle.std.proofs.Common.{◌≡◌, ℕ, min, Bool, true, false, ◌&&◌, nat_lt, List, [], ◌∷◌}
 use Rattle.std.proofs.Common.{Option, Some, None, refl, sym, ap, ap₂, ◌∙◌, ◌<◌, arith}
 use Rattle.std.specs.Prelude.{slice_get, if◌then◌else◌}

@@ -1,4 +1,5 @@
 -- The first statement without a form is there where not all have one.
+-- Serves `of` and `of_function`.
 use Rattle.std.proofs.Common.{◌≡◌, ◌⊎◌, inl, inr, ℕ, zero, suc, Bool, true, false, List, [], ◌∷◌}
 use Rattle.std.proofs.Common.{Option, Some, None, ◌&&◌, ◌||◌, refl, sym, ap, ◌∙◌, arith, slice_get}
 use Rattle.std.specs.Prelude.{IsTrue, IsFalse, not}

@@ -1,5 +1,6 @@
 -- Where something of a function's body lacks, it is at one of its statements, and in front of that each
 -- statement has a form.
+-- Serves `of` and `of_function`.
 use Rattle.std.proofs.Common.{◌≡◌, ◌⊎◌, inl, inr, ⊎_elim, ℕ, zero, suc, ◌+◌, ◌<◌, List, ◌∷◌, ◌++◌, Option}
 use Rattle.std.proofs.Common.{Some, None, refl, sym, ap, ◌∙◌, arith, length, slice_get, subst}
 use Rattle.std.proofs.lemmas.Option.{same_Some, slice_get_within}

@@ -1,4 +1,5 @@
 -- The check over statements without blocks.
+-- Serves `check_own`.
 use Rattle.std.proofs.Common.{◌≡◌, ℕ, Bool, true, false, Option, None, Some, List, [], ◌∷◌}
 use Rattle.std.proofs.Common.{length, refl, sym}
 use Rattle.std.specs.Prelude.{Ok, Err}

@@ -1,5 +1,6 @@
 -- What a definition tells of a block by recursion over statements, blocks and cases is what is told of
 -- the list of its statements, each by itself.
+-- Serves 5 contracts, `expression_names` among them.
 use Rattle.std.proofs.Common.{◌≡◌, ℕ, ◌+◌, ◌<◌, ◌≤◌, Bool, true, false, ◌&&◌, ◌||◌, List, [], ◌∷◌}
 use Rattle.std.proofs.Common.{◌++◌, Option, refl, sym, ap, ◌∙◌, arith, append-nil, append_assoc}
 use Rattle.std.proofs.Common.{drop, length, slice_index_or}

@@ -1,4 +1,5 @@
 -- Points of a function that follow one another.
+-- Serves `check_emit` and `walk`.
 use Rattle.std.proofs.Common.{◌≡◌, ℕ, true, List, [], get_or, refl, ap, ◌∙◌, length}
 use Rattle.std.specs.Prelude.{IsTrue}
 use Rattle.module_semantics.specs.Names.{numbered_name}

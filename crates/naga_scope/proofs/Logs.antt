@@ -1,4 +1,5 @@
 -- The log: what undoing it gives, and what forgetting by it leaves.
+-- Serves 15 contracts, `back_to` among them.
 use Rattle.std.proofs.Common.{◌≡◌, ℕ, ◌+◌, ◌-◌, ◌<◌, ◌≤◌, Bool, true, false, nat_eq, List, [], ◌∷◌}
 use Rattle.std.proofs.Common.{◌++◌, append_assoc, length, take, drop, get_or, slice_set, slice_get}
 use Rattle.std.proofs.Common.{Some, refl, sym, ap, ◌∙◌, subst, arith}

@@ -1,5 +1,6 @@
 -- The lowest expression without a form that others are made of: it is one of those that are written
 -- with them, and where there is none, each of those has a form.
+-- Serves 7 contracts, `lowest_at` among them.
 use Rattle.std.proofs.Common.{◌≡◌, ◌⊎◌, inl, inr, ℕ, zero, suc, ◌+◌, ◌<◌, ◌≤◌, Bool, true, false, List, [], ◌∷◌}
 use Rattle.std.proofs.Common.{Option, Some, None, refl, sym, ap, ap₂, ◌∙◌, arith, subst, length}
 use Rattle.std.proofs.Common.{below_more, get_or, nat_lt, slice_get, slice_set}

@@ -1,4 +1,5 @@
 -- Walks along blocks, which count statements.
+-- Serves `walk`.
 use Rattle.std.proofs.Common.{◌≡◌, ◌∙◌, ◌+◌, ◌<◌, ◌≤◌, ◌^◌, ℕ, suc, ap, arith, length, length-append}
 use Rattle.naga_ir.specs.StatementTree.{StatementTree, BlockTree, statement, block_size, statement_size}
 use Rattle.naga_ir.specs.InOrder.{trees_in, trees_inside}

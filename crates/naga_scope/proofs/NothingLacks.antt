@@ -1,4 +1,5 @@
 -- Where nothing of a function lacks, its locals and its statements fit, and each has forms.
+-- Serves `of` and `of_function`.
 use Rattle.std.proofs.Common.{◌≡◌, ⊎_elim, ℕ, zero, suc, ◌+◌, Bool, true, false, List, [], ◌∷◌, ◌++◌, map}
 use Rattle.std.proofs.Common.{Option, Some, None, ◌&&◌, refl, sym, ◌∙◌, length, subst}
 use Rattle.std.proofs.lemmas.Bool.{not-false}

@@ -1,5 +1,6 @@
 -- An offset that is written out as a constant is in scope from the start of a function to its end, so
 -- that it is no matter whether it is taken for an operand.
+-- Serves 6 contracts, `check_emit` among them.
 use Rattle.std.proofs.Common.{◌≡◌, ℕ, zero, suc, ◌<◌, ◌&&◌, ◌||◌, true, List, [], ◌∷◌, ◌++◌, length}
 use Rattle.std.proofs.Common.{Option, Some, None, refl, sym, ap, ap₂, ◌∙◌, arith, subst, slice_get}
 use Rattle.std.specs.Option.{is_some, option_and_then, option_map_or, option_to_list}

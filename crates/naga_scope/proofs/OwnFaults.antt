@@ -1,4 +1,5 @@
 -- Where the check of a statement finds a fault, the statement breaks a rule of scope with it.
+-- Serves `of` and `of_function`.
 use Rattle.std.proofs.Common.{◌≡◌, ⊎_elim, ℕ, zero, suc, ◌+◌, Bool, true, false, List, [], ◌∷◌, Option}
 use Rattle.std.proofs.Common.{Some, None, refl, sym, subst, ◌∙◌, arith, length}
 use Rattle.std.specs.Prelude.{IsTrue, IsFalse, slice_get, Err}

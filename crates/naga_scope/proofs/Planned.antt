@@ -1,4 +1,5 @@
 -- What a plan of a function says of its module, and what of a function keeps it from having one.
+-- Serves `of` and `of_function`.
 use Rattle.std.proofs.Common.{◌≡◌, ⊎_elim, ℕ, Bool, true, false, zero, suc, ◌+◌, List, [], ◌∷◌, None}
 use Rattle.std.proofs.Common.{Option, Some, ◌&&◌, ap, subst, sym, refl, ◌∙◌, arith, map}
 use Rattle.std.proofs.lemmas.Bool.{eq-eqb, not-true}

@@ -1,4 +1,5 @@
 -- In a function whose handles are in range, so are the results of its statements.
+-- Serves `of` and `walk`.
 use Rattle.std.proofs.Common.{ℕ, Bool, true, false, ◌&&◌, ◌≡◌, subst, sym}
 use Rattle.naga_scope.specs.Continues.{before_continue, from_continue, holds_continue}
 use Rattle.std.specs.Prelude.{IsTrue, cond, nat_lt}

@@ -1,4 +1,5 @@
 -- The check of the rules of scope at a statement finds no fault exactly where it fits.
+-- Serves 7 contracts, `check_act` among them.
 use Rattle.std.proofs.Common.{◌≡◌, ◌⊎◌, inl, inr, ℕ, Bool, true, false, not, List, [], ◌∷◌, Option, Some, None}
 use Rattle.std.proofs.Common.{◌&&◌, ◌||◌, refl, sym, subst, true≢false}
 use Rattle.std.specs.Prelude.{IsTrue, IsFalse, Result, Ok, Err}

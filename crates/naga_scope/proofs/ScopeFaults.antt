@@ -1,4 +1,5 @@
 -- A fault of a function breaks a rule of scope.
+-- Serves `of` and `of_function`.
 use Rattle.std.proofs.Common.{◌≡◌, ⊎_elim, ℕ, zero, suc, Some, sym, subst}
 use Rattle.std.proofs.lemmas.Option.{same_Some}
 use Rattle.std.specs.Prelude.{IsTrue, slice_get}

@@ -1,5 +1,6 @@
 -- The shapes of a function's expressions have the kinds and the operands of these, and a `let` binds
 -- what is used as often as its kind asks.
+-- Serves 10 contracts, `binds` among them.
 use Rattle.std.proofs.Common.{◌≡◌, ℕ, Bool, ◌&&◌, ◌||◌, true, false, List, [], ◌∷◌, nat_lt, Option}
 use Rattle.std.proofs.Common.{Some, None, refl, sym, ap, ◌∙◌}
 use Rattle.std.specs.Prelude.{slice_get, if◌then◌else◌}

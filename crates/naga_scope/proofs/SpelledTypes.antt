@@ -1,4 +1,5 @@
 -- What a search for a type without a form says of the types that the text of a function spells.
+-- Serves `argument_without_form`, `emitted_without_form`, `of` and `of_function`.
 use Rattle.std.proofs.Common.{◌≡◌, ◌<◌, ◌+◌, ℕ, zero, suc, Bool, true, false, ◌&&◌, List, [], ◌∷◌}
 use Rattle.std.proofs.Common.{drop, length, map, slice_index_or, Option, Some, None}
 use Rattle.std.proofs.Common.{refl, sym, ap, subst, ◌∙◌, arith}

@@ -1,4 +1,5 @@
 -- The shape of a body has as many statements as the body.
+-- Serves `of` and `of_function`.
 use Rattle.std.proofs.Common.{◌≡◌, ℕ, suc, Bool, true, false, refl, ap, ap₂, sym, ◌∙◌}
 use Rattle.std.proofs.Common.{◌+◌, length, length-append}
 use Rattle.module_semantics.specs.ExpressionOperators.{ExpressionContext, is_atomic_pointer}

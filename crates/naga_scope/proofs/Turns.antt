@@ -1,4 +1,5 @@
 -- A loop's body, cut at its first statement that holds a `continue`.
+-- Serves `split_at_continue` and `walk`.
 use Rattle.std.proofs.Common.{◌≡◌, ℕ, suc, ◌+◌, ◌≤◌, Bool, true, false, ◌||◌, List, [], ◌∷◌}
 use Rattle.std.proofs.Common.{length, take, drop, Option, Some, None, nat_eq, eqb-true, refl, sym}
 use Rattle.std.proofs.Common.{ap, ◌∙◌, arith, add-one, subst}

@@ -2,15 +2,22 @@
 --
 -- Throughout, type 0 is `i32`, and type 1 a truth value of four bytes, which has no form. Expression 0
 -- is `0u`, and expressions 1 and 2 are zero values of type 1, which have no form either. Expression 3 is
--- a load of 1 that nothing emits, so that it is out of scope and is made of what has no form.
--- No expression has the handle 9.
+-- a load of 1, so that it is made of what has no form, and out of scope unless an `Emit` gives it.
+-- Expression 4 is `0u + 0u`, 5 the sum of two of these, 6 and 7 are what calls give, and 8 is the sum of
+-- 3 and of 9, which is not there. What is known of 4, 5 and 7 is type 1, and of 6 type 0. Each
+-- expression is used twice, so that a `let` binds what an `Emit` gives.
 use Rattle.std.proofs.Common.{◌≡◌, ℕ, Bool, true, false, List, [], ◌∷◌, Option, None, Some, refl, arith, Vec, Global}
+use Rattle.std.proofs.Common.{map}
+use Rattle.indexmap.specs.IndexMap.{with_entries}
 use Rattle.module_semantics.specs.AlikeTypes.{handle_key}
 use Rattle.module_semantics.proofs.ModuleShapeExamples.{one}
 use Rattle.module_semantics.proofs.PlaceExamples.{none_of}
+use Rattle.naga_info.specs.declared.info.ExpressionInfo.{ExpressionInfo}
 use Rattle.naga_info.specs.declared.info.ModuleInfo.{ModuleInfo}
+use Rattle.naga_info.specs.declared.info.TypeResolution.TheVariants.{Handle}
 use Rattle.naga_ir.specs.StatementTree.{StatementTree, simple, ray_query, store, block, branch, switch, loop}
 use Rattle.naga_ir.specs.StatementTree.{BlockTree, no_statements, statement, CaseTrees, no_cases, case}
+use Rattle.naga_ir.specs.StatementTree.{atomic, call, emit, subgroup_collective_operation}
 use Rattle.naga_ir.specs.declared.expression.Expression.TheVariants as expression
 use Rattle.naga_ir.specs.declared.expression.Literal.TheVariants as literal
 use Rattle.naga_ir.specs.declared.module.Function.{Function}
@@ -18,6 +25,10 @@ use Rattle.naga_ir.specs.declared.module.FunctionArgument.{FunctionArgument}
 use Rattle.naga_ir.specs.declared.module.FunctionResult.{FunctionResult}
 use Rattle.naga_ir.specs.declared.module.LocalVariable.{LocalVariable}
 use Rattle.naga_ir.specs.declared.module.Module.{Module}
+use Rattle.naga_ir.specs.declared.operators.AtomicFunction.TheVariants.{Exchange}
+use Rattle.naga_ir.specs.declared.operators.BinaryOperator.TheVariants as binary
+use Rattle.naga_ir.specs.declared.operators.CollectiveOperation.TheVariants.{InclusiveScan}
+use Rattle.naga_ir.specs.declared.operators.SubgroupOperation.TheVariants.{Max}
 use Rattle.naga_ir.specs.declared.statement.SwitchValue.TheVariants as switch_value
 use Rattle.naga_ir.specs.declared.types.ScalarKind.TheVariants as kind
 use Rattle.naga_ir.specs.declared.types.TypeInner.{TypeInner}
@@ -29,7 +40,7 @@ use Rattle.naga_scope.specs.declared.lines.Declared.TheVariants as by
 use Rattle.naga_scope.specs.declared.lines.Line.TheVariants as line
 use Rattle.naga_scope.specs.declared.plan.PlanError.{PlanError}
 use Rattle.naga_scope.specs.declared.plan.PlanError.TheVariants.{OutOfScope, StatementWithoutForm}
-use Rattle.naga_scope.specs.declared.plan.PlanError.TheVariants.{TypeWithoutForm, WithoutForm}
+use Rattle.naga_scope.specs.declared.plan.PlanError.TheVariants.{LetWithoutForm, TypeWithoutForm, WithoutForm}
 use Rattle.naga_scope.specs.declared.scope_faults.ScopeFault.TheVariants as fault
 use Rattle.naga_refusals.specs.declared.construct.Construct.TheVariants as construct
 
@@ -69,13 +80,20 @@ module _ (other : Module) (info : ModuleInfo) (f : Function) (argument : Functio
         result = None;
         local_variables = [];
         expressions = expression.Literal (literal.U32 0) ∷ expression.ZeroValue 1 ∷ expression.ZeroValue 1
-            ∷ expression.Load 1 ∷ [];
+            ∷ expression.Load 1 ∷ expression.Binary binary.Add 0 0 ∷ expression.Binary binary.Add 4 4
+            ∷ expression.CallResult 0 ∷ expression.CallResult 1 ∷ expression.Binary binary.Add 3 9 ∷ [];
+        named_expressions = with_entries f.named_expressions [];
         body = no_statements;
       }
 
+  abbrev known : List ExpressionInfo
+  known =
+      map (λ ty. record { ref_count = 2; ty = Handle ty })
+      (0 ∷ 1 ∷ 1 ∷ 0 ∷ 1 ∷ 1 ∷ 0 ∷ 1 ∷ 0 ∷ [])
+
   -- the first lack of a function of the module
   abbrev first_of : Function → Option PlanError
-  first_of f = first_lack (record { explicit = true; shader = m; info = info; function = f; known = [] })
+  first_of f = first_lack (record { explicit = true; shader = m; info = info; function = f; known = known })
 
   -- of one with this body
   abbrev first_in : List StatementTree → Option PlanError
@@ -97,6 +115,13 @@ module _ (other : Module) (info : ModuleInfo) (f : Function) (argument : Functio
 
   abbrev stores : (pointer value : ℕ) → StatementTree
   stores pointer value = simple (store pointer value)
+
+  -- an `Emit` of the handles from the first to before the second, and a call that gives this
+  abbrev emits : (first end : ℕ) → StatementTree
+  emits first end = simple (emit first end)
+
+  abbrev calls : (arguments : List ℕ) → (given : ℕ) → StatementTree
+  calls arguments given = simple (call 0 arguments (Some given))
 
   -- a case of a `switch`
   abbrev case_of : BlockTree → (falls : Bool) → CaseTrees → CaseTrees
@@ -235,6 +260,71 @@ module _ (other : Module) (info : ModuleInfo) (f : Function) (argument : Functio
 
   pointer_before_the_value : first_in (stores 9 3 ∷ []) ≡ Some (OutOfScope (fault.Operand 0 9))
   pointer_before_the_value = refl
+
+  -- ---- of an `Emit`
+  -- expression by expression, of each whether it was given before, whether it needs no `Emit`, and its
+  -- operands in order; and the scope of all before the form of any
+  emitted_in_order : first_in (emits 0 2 ∷ []) ≡ Some (OutOfScope (fault.NeedsNoEmit 0 0))
+  emitted_in_order = refl
+
+  each_before_the_next :
+      first_of (record empty {
+        expressions = expression.Literal (literal.U32 0) ∷ expression.ZeroValue 1 ∷ expression.Binary binary.Add 0 9
+            ∷ expression.CallResult 0 ∷ [];
+        body = statement (emits 2 4) no_statements;
+      })
+      ≡ Some (OutOfScope (fault.EmittedOperand 0 2 9))
+  each_before_the_next = refl
+
+  given_before_no_need : first_in (calls [] 6 ∷ emits 6 7 ∷ []) ≡ Some (OutOfScope (fault.IntroducedBefore 1 6))
+  unfolding handle_key
+  given_before_no_need = refl
+
+  emitted_operands_in_order : first_in (emits 8 9 ∷ []) ≡ Some (OutOfScope (fault.EmittedOperand 0 8 3))
+  emitted_operands_in_order = refl
+
+  scope_of_all_before_a_form : first_in (emits 3 7 ∷ []) ≡ Some (OutOfScope (fault.NeedsNoEmit 0 6))
+  scope_of_all_before_a_form = refl
+
+  -- ---- of what gives a result
+  arguments_of_a_call_in_order : first_in (calls (3 ∷ 9 ∷ []) 6 ∷ []) ≡ Some (OutOfScope (fault.Operand 0 3))
+  arguments_of_a_call_in_order = refl
+
+  arguments_before_the_result : first_in (calls [] 6 ∷ calls (9 ∷ []) 6 ∷ [])
+      ≡ Some (OutOfScope (fault.Operand 1 9))
+  unfolding handle_key
+  arguments_before_the_result = refl
+
+  result_before_a_form : first_in (calls [] 6 ∷ calls (1 ∷ []) 6 ∷ [])
+      ≡ Some (OutOfScope (fault.IntroducedBefore 1 6))
+  unfolding handle_key
+  result_before_a_form = refl
+
+  -- of an atomic what it compares before the value
+  atomic_in_order : first_in (simple (atomic 0 (Exchange (Some 3)) 9 (Some 6)) ∷ [])
+      ≡ Some (OutOfScope (fault.Operand 0 3))
+  atomic_in_order = refl
+
+  -- ---- of types that `let`s tell
+  lets_in_order : first_in (emits 4 6 ∷ []) ≡ Some (LetWithoutForm 0 4)
+  unfolding handle_key
+  lets_in_order = refl
+
+  expression_before_a_let : first_in (emits 3 5 ∷ []) ≡ Some (WithoutForm (line.Statement 0) 1)
+  unfolding handle_key
+  expression_before_a_let = refl
+
+  let_of_a_result : first_in (calls [] 7 ∷ unformed ∷ []) ≡ Some (LetWithoutForm 0 7)
+  unfolding handle_key
+  let_of_a_result = refl
+
+  argument_before_a_let : first_in (calls (1 ∷ []) 7 ∷ []) ≡ Some (WithoutForm (line.Statement 0) 1)
+  unfolding handle_key
+  argument_before_a_let = refl
+
+  statement_before_a_let : first_in (simple (subgroup_collective_operation Max InclusiveScan 1 7) ∷ [])
+      ≡ Some (StatementWithoutForm 0 construct.SubgroupOperation)
+  statement_before_a_let = refl
 
 -- ---- what stands on a line
 -- Throughout, the loops are `loop { if 1 { loop {} break if 3 } } continuing { {} } break if 4`: the outer one

@@ -1,5 +1,6 @@
 -- A walk over the statements of a function: what it answers, and a loop's body cut at its first statement
 -- that holds a `continue`.
+-- Serves `check_function`, `check_locals`, `of_function` and `walk`.
 use Rattle.std.proofs.Common.{◌≡◌, ℕ, suc, ◌+◌, Bool, true, false, List, [], ◌∷◌, ◌++◌, Option, Some, None, refl}
 use Rattle.std.proofs.Common.{sym, add-one, ap, ◌∙◌, arith, length, length-append}
 use Rattle.std.specs.List.{enumerate_from}

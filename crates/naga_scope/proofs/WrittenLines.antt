@@ -1,4 +1,5 @@
 -- What the lines of a function write by themselves is what the function writes by itself.
+-- Serves `of` and `of_function`.
 use Rattle.std.proofs.Common.{◌≡◌, ◌⊎◌, inl, inr, ℕ, Bool, true, false, List, [], ◌||◌, Option, Some, None, refl, sym}
 use Rattle.std.proofs.Common.{◌∙◌, nat_eq, slice_get}
 use Rattle.std.proofs.lemmas.Bool.{or_cases, or_left, or_right}

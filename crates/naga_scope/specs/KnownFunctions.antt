@@ -22,13 +22,13 @@ expressions_of k = k.function.now.expressions
 
 -- what it does
 abbrev pub shape_of : KnownFunction → Function
-shape_of k = function_shape k.shader.now k.module_info.now k.function.now k.info.now
+shape_of k = function_shape k.whole.shader.now k.whole.info.now k.function.now k.info.now
 
 -- the same under names that tell nothing: the rules of scope don't look at names
 abbrev pub naming_of : KnownFunction → Naming
 naming_of k =
-    function_naming (λ key. None) (λ number. []) k.shader.now k.module_info.now 0 k.function.now
-    k.info.now
+    function_naming (λ key. None) (λ number. []) k.whole.shader.now k.whole.info.now 0
+    k.function.now k.info.now
 
 -- a `let` binds the handle where it is emitted
 abbrev pub bound_in : KnownFunction → (handle : ℕ) → Bool
@@ -36,11 +36,11 @@ bound_in k handle = binds (shape_of k) handle
 
 -- one of its expressions has a form
 abbrev pub has_form_in : KnownFunction → Expression → Bool
-has_form_in k e = expression_has_form k.shader.now k.info.now (expressions_of k) e
+has_form_in k e = expression_has_form k.whole.shader.now k.info.now (expressions_of k) e
 
 -- what its statements do
 abbrev pub context_of : KnownFunction → ExpressionContext
-context_of k = (declared k.shader.now k.module_info.now (types_known k.info.now)).context
+context_of k = (declared k.whole.shader.now k.whole.info.now (types_known k.info.now)).context
 
 abbrev pub statement_in : KnownFunction → StatementTree → Statement
 statement_in k st = statement_shape (context_of k) st

@@ -5,6 +5,7 @@ pub mod ExpressionNames
 pub mod FirstLack
 pub mod InOrder
 pub mod KnownFunctions
+pub mod KnownModules
 pub mod Lacks
 pub mod Lines
 pub mod Log

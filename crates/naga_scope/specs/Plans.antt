@@ -113,7 +113,7 @@ IsFirstToPlan Labelled explicit m info f es error =
 -- so it is where the namer was this
 abbrev pub IsFirstToPlanFor : (explicit : Bool) → KnownFunction → Names → PlanError → Type 0
 IsFirstToPlanFor explicit k namer error =
-    IsFirstToPlan (LabelsGetNames namer k.function.now) explicit k.shader.now k.module_info.now
+    IsFirstToPlan (LabelsGetNames namer k.function.now) explicit k.whole.shader.now k.whole.info.now
     k.function.now k.info.now error
 
 abbrev pub IsFirstToPlanOf : (explicit : Bool) → Module → ModuleInfo → (number : ℕ) → Names →
@@ -125,11 +125,12 @@ IsFirstToPlanOf explicit m info number namer error =
 -- a plan of a function with what is known of it, and why there is none
 abbrev pub IsPlanFor : (explicit : Bool) → KnownFunction → Planned → Type 0
 IsPlanFor explicit k plan =
-    IsPlan explicit k.shader.now k.module_info.now k.function.now k.info.now plan
+    IsPlan explicit k.whole.shader.now k.whole.info.now k.function.now k.info.now plan
 
 abbrev pub IsRefusalToPlanFor : (explicit : Bool) → KnownFunction → Names → PlanError → Type 0
 IsRefusalToPlanFor explicit k namer error =
-    IsRefusalToPlan explicit k.shader.now k.module_info.now k.function.now k.info.now namer error
+    IsRefusalToPlan explicit k.whole.shader.now k.whole.info.now k.function.now k.info.now namer
+    error
 
 -- a plan of the function with this number, and why there is none
 abbrev pub IsPlanOf : (explicit : Bool) → Module → ModuleInfo → (number : ℕ) → Planned → Type 0

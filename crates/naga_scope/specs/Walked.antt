@@ -13,8 +13,8 @@ use Rattle.naga_tables.specs.Tables.{AreTablesOf}
 abbrev pub written_by : (explicit : Bool) → KnownFunction → WrittenFunction
 written_by explicit k = record {
   explicit = explicit;
-  shader = k.shader.now;
-  info = k.module_info.now;
+  shader = k.whole.shader.now;
+  info = k.whole.info.now;
   function = k.function.now;
   known = k.info.now;
 }
@@ -25,5 +25,5 @@ walked w = written_by w.explicit w.known
 
 -- the tables of a walk are those of its module and its function
 pub record HasTables (w : Walk) : Type 0 where
-  pub tables : AreTablesOf w.known.shader.now w.known.tables.now
+  pub tables : AreTablesOf w.known.whole.shader.now w.known.whole.tables.now
   pub lacks : AreLowestLacks (has_form_in w.known) (expressions_of w.known) w.lacks.now

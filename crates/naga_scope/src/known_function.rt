@@ -3,20 +3,16 @@
 ghost use Rattle.std.specs.Prelude.{◌≡◌};
 ghost use Rattle.naga_scope.specs.KnownFunctions.{bound_in};
 
+use crate::known_module::KnownModule;
 use crate::lets::binds;
-use naga_info::{FunctionInfo, ModuleInfo};
-use naga_ir::{Expression, Function, Handle, Module};
-use naga_tables::ModuleTables;
+use naga_info::FunctionInfo;
+use naga_ir::{Expression, Function, Handle};
 
 /// A function of a module, and what is known of both.
 #[derive(Clone, Copy)]
 pub(crate) struct KnownFunction<'a> {
     /// The module.
-    pub(crate) shader: &'a Module,
-    /// What is known of it.
-    pub(crate) module_info: &'a ModuleInfo,
-    /// What is looked up of it.
-    pub(crate) tables: &'a ModuleTables,
+    pub(crate) whole: KnownModule<'a>,
     /// The function.
     pub(crate) function: &'a Function,
     /// What is known of its expressions.
@@ -28,6 +24,6 @@ impl KnownFunction<'_> {
     pub(crate) fn binds(&self, handle: Handle<Expression>) -> bool
         ensures { result ≡ bound_in self.now handle }
     {
-        binds(&self.shader.types, self.function, self.info, handle)
+        binds(&self.whole.shader.types, self.function, self.info, handle)
     }
 }

@@ -5,28 +5,22 @@ ghost use Rattle.std.specs.Prelude.{◌≡◌, List, None, get_or, length, repli
 ghost use Rattle.std.specs.Prelude.{IfOk, Some};
 ghost use Rattle.naga_ir.specs.Operands.{expression_operands};
 ghost use Rattle.naga_ir.specs.declared.expression.Expression.{Expression};
-ghost use Rattle.naga_naming.specs.Keys.{names_in};
-ghost use Rattle.module_semantics.specs.Names.{HasNamesOf};
 ghost use Rattle.module_semantics.specs.Premises.{OperandsStandBefore};
 ghost use Rattle.module_semantics.specs.Sampling.{own_offset_has_form};
 ghost use Rattle.module_semantics.specs.WrittenOut.{written_out_over};
 ghost use Rattle.module_semantics.specs.ExpressionForms.{expression_has_form};
 ghost use Rattle.naga_tables.specs.Forms.{AreKnownIn};
 ghost use Rattle.naga_scope.specs.KnownFunctions.{expressions_of, has_form_in};
+ghost use Rattle.naga_scope.specs.KnownModules.{IsKnownModule};
 ghost use Rattle.naga_scope.specs.Lacks.{AreLowestLacks, lower, lowest_of, lowest_over};
 ghost use Rattle.naga_tables.specs.Marks.{MarksConstants};
 ghost use Rattle.naga_tables.specs.Marks.{is_marked};
-ghost use Rattle.naga_tables.specs.Tables.{AreTablesOf};
 
 use crate::known_function::KnownFunction;
-use naga_info::FunctionInfo;
-use naga_ir::{Expression, Function, Handle, ItemIndex, Module};
-use naga_naming::NameKey;
-use naga_tables::ModuleTables;
+use naga_ir::{Expression, Function, Handle, ItemIndex};
 use naga_tables::forms::own_refusal;
 use naga_tables::marks::{are_marked, is_marked, no_marks};
 use std::alloc::{AllocError, Global};
-use std::collections::HashMap;
 
 /// Whether an expression may be written out as a constant, by marks of its operands that may.
 fn is_constant(marks: &[bool], expression: &Expression) -> bool
@@ -73,19 +67,23 @@ fn offset_has_form(constants: &[bool], expression: &Expression) -> bool
 /// Whether an expression has a form, by marks of those that may be written out as constants.
 fn expression_has_form(
     constants: &[bool],
-    module: &Module,
-    tables: &ModuleTables,
-    names: &HashMap<NameKey, String>,
-    info: &FunctionInfo,
+    known: &KnownFunction<'_>,
     expression: &Expression,
 ) -> bool
-    requires tables { AreTablesOf «module».now tables.now }
-    requires named { HasNamesOf «module».now (names_in names.now) }
-    requires known { AreKnownIn «module».now.types info.now }
+    requires known { IsKnownModule known.now.whole }
+    requires types { AreKnownIn known.now.whole.shader.now.types known.now.info.now }
     ensures { (es : List Expression) → MarksConstants es constants.now →
-        result ≡ expression_has_form «module».now info.now es expression.now }
+        result
+        ≡ expression_has_form known.now.whole.shader.now known.now.info.now es expression.now }
 {
-    match own_refusal(module, tables, names, info, expression) {
+    let whole = &known.whole;
+    match own_refusal(
+        whole.shader,
+        whole.tables,
+        whole.names,
+        known.info,
+        expression,
+    ) {
         Some(_) => false,
         None => offset_has_form(constants, expression),
     }
@@ -149,25 +147,16 @@ fn lowest_at(
     lacks: &[Option<Handle<Expression>>],
     constants: &[bool],
     known: &KnownFunction<'_>,
-    names: &HashMap<NameKey, String>,
     handle: Handle<Expression>,
     expression: &Expression,
 ) -> Option<Handle<Expression>>
     requires constants { MarksConstants (expressions_of known.now) constants.now }
-    requires tables { AreTablesOf known.now.shader.now known.now.tables.now }
-    requires named { HasNamesOf known.now.shader.now (names_in names.now) }
-    requires types { AreKnownIn known.now.shader.now.types known.now.info.now }
+    requires known { IsKnownModule known.now.whole }
+    requires types { AreKnownIn known.now.whole.shader.now.types known.now.info.now }
     ensures { result ≡ lowest_over (has_form_in known.now) (λ h. get_or lacks.now h None) handle
         expression.now }
 {
-    let has_form = expression_has_form(
-        constants,
-        known.shader,
-        known.tables,
-        names,
-        known.info,
-        expression,
-    );
+    let has_form = expression_has_form(constants, known, expression);
     let found = operands_lack(lacks, expression);
     if has_form {
         found
@@ -182,20 +171,18 @@ fn note_lacks(
     lacks: &mut [Option<Handle<Expression>>],
     constants: &[bool],
     known: &KnownFunction<'_>,
-    names: &HashMap<NameKey, String>,
 )
     requires size { length lacks.old ≡ length (expressions_of known.now) }
     requires ordered { OperandsStandBefore (expressions_of known.now) }
     requires constants { MarksConstants (expressions_of known.now) constants.now }
-    requires tables { AreTablesOf known.now.shader.now known.now.tables.now }
-    requires named { HasNamesOf known.now.shader.now (names_in names.now) }
-    requires types { AreKnownIn known.now.shader.now.types known.now.info.now }
+    requires known { IsKnownModule known.now.whole }
+    requires types { AreKnownIn known.now.whole.shader.now.types known.now.info.now }
     ensures { AreLowestLacks (has_form_in known.now) (expressions_of known.now) lacks.new }
 {
     for index in 0..known.function.expressions.len() {
         let handle = ItemIndex::from_index(index);
         let expression = &known.function.expressions[handle];
-        let lack = lowest_at(lacks, constants, known, names, handle, expression);
+        let lack = lowest_at(lacks, constants, known, handle, expression);
         lacks[index] = lack;
     }
 }
@@ -210,20 +197,18 @@ fn no_lacks(alloc: Global, count: usize) -> Result<Vec<Option<Handle<Expression>
 /// A table of the lowest expression without a form that each expression of the function is made of,
 /// itself among them. It takes memory for the table, and for one of marks that is given back.
 pub(crate) fn lowest_lacks(
-    alloc: Global,
     known: &KnownFunction<'_>,
-    names: &HashMap<NameKey, String>,
 ) -> Result<Vec<Option<Handle<Expression>>>, AllocError>
     requires ordered { OperandsStandBefore (expressions_of known.now) }
-    requires tables { AreTablesOf known.now.shader.now known.now.tables.now }
-    requires named { HasNamesOf known.now.shader.now (names_in names.now) }
-    requires types { AreKnownIn known.now.shader.now.types known.now.info.now }
+    requires known { IsKnownModule known.now.whole }
+    requires types { AreKnownIn known.now.whole.shader.now.types known.now.info.now }
     ensures { IfOk result (λ lacks.
         AreLowestLacks (has_form_in known.now) (expressions_of known.now) lacks.items) }
 {
+    let alloc = known.whole.alloc;
     let mut constants = no_marks(alloc, known.function.expressions.len())?;
     mark_constants(&mut constants, known.function);
     let mut lacks = no_lacks(alloc, known.function.expressions.len())?;
-    note_lacks(&mut lacks, &constants, known, names);
+    note_lacks(&mut lacks, &constants, known);
     Ok(lacks)
 }

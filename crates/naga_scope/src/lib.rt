@@ -8,6 +8,7 @@ pub mod continues;
 pub mod functions;
 mod in_order;
 mod known_function;
+pub mod known_module;
 mod lacks;
 pub mod lets;
 pub mod lines;
@@ -22,6 +23,7 @@ mod walk;
 
 pub use continues::split_at_continue;
 pub use functions::function_of;
+pub use known_module::KnownModule;
 pub use lets::binds;
 pub use lines::{Declared, Line};
 pub use plan::{Plan, PlanError};

@@ -1,41 +1,37 @@
 //! What is decided of a function before its text.
 
-ghost use Rattle.std.specs.Prelude.{◌≡◌, [], List, IfErr, IfOk, IsTrue, OnErr, length, map};
+ghost use Rattle.std.specs.Prelude.{◌≡◌, [], List, IfErr, IfOk, OnErr, length, map};
 ghost use Rattle.std.specs.Prelude.{string_bytes};
-ghost use Rattle.module_semantics.specs.acceptance.Accepted.{is_accepted};
 ghost use Rattle.module_semantics.specs.ExpressionLabels.{expression_labels};
-ghost use Rattle.module_semantics.specs.FunctionNumbers.{IsFunctionOf, function_number};
-ghost use Rattle.module_semantics.specs.Names.{HasNamesOf, labels_named_in};
+ghost use Rattle.module_semantics.specs.FunctionNumbers.{IsFunctionOf};
 ghost use Rattle.module_semantics.specs.Premises.{OperandsStandBefore};
-ghost use Rattle.naga_naming.specs.Keys.{names_in};
 ghost use Rattle.naga_scope.specs.ExpressionNames.{HasBegunLabels, NamesLabels};
 ghost use Rattle.naga_tables.specs.Forms.{AreKnownIn};
 ghost use Rattle.naga_scope.specs.KnownFunctions.{expressions_of};
-ghost use Rattle.naga_scope.specs.Plans.{IsFirstToPlanFor, IsFirstToPlanOf, IsPlanFor, IsPlanOf};
+ghost use Rattle.naga_scope.specs.KnownModules.{IsKnownModule, IsPlanIn, explicit_in};
+ghost use Rattle.naga_scope.specs.KnownModules.{labels_in, number_in};
+ghost use Rattle.naga_scope.specs.Plans.{IsFirstToPlanFor, IsFirstToPlanOf, IsPlanFor};
 ghost use Rattle.naga_scope.specs.Plans.{IsRefusalToPlanFor, IsRefusalToPlanOf};
 ghost use Rattle.naga_scope.specs.Results.{ResultsFit};
-ghost use Rattle.naga_tables.specs.Tables.{AreTablesOf};
 ghost use Rattle.naga_scope.specs.declared.plan.PlanError.TheVariants.{Memory, OutOfScope, Unnamed};
 
 use crate::changes::count_changes;
 use crate::functions::function_of;
 use crate::in_order::statements_in;
 use crate::known_function::KnownFunction;
+use crate::known_module::KnownModule;
 use crate::lacks::lowest_lacks;
 use crate::lines::{Declared, Line};
 use crate::named::expression_names;
 use crate::points::Scope;
 use crate::scope_faults::ScopeFault;
 use crate::walk::Walk;
-use naga_back::FunctionType;
-use naga_info::ModuleInfo;
-use naga_ir::{Expression, Handle, Module, Type_};
+use naga_back::{FunctionType, annotates_types};
+use naga_ir::{Expression, Handle, Type_};
 use naga_names::namer::Namer;
-use naga_naming::{NameKey, NamerError};
+use naga_naming::NamerError;
 use naga_refusals::Construct;
-use naga_tables::ModuleTables;
-use std::alloc::{AllocError, Global};
-use std::collections::HashMap;
+use std::alloc::AllocError;
 use std::marker::Model;
 
 /// Why there is no plan of a function.
@@ -108,12 +104,10 @@ impl Model for Plan {
 }
 
 impl Plan {
-    /// The plan of this function of a module that is accepted with what is known of it; `tables`
-    /// are what is looked up of that module, `names` those of its items, and `explicit` says
-    /// whether `let`s tell types.
-    /// Where the rules of scope don't hold in the function, a statement, a written expression or a
-    /// type that is spelled has no form, a label gets no name, or there is no memory, there is no
-    /// plan.
+    /// The plan of this function of the module, for `let`s that tell types where the flags ask for
+    /// it. Where the rules of scope don't hold in the function, a statement, a written expression
+    /// or a type that is spelled has no form, a label gets no name, or there is no memory, there is
+    /// no plan.
     ///
     /// The namer names the labels that front ends gave to what the function emits, in the order of
     /// the text. Where there is no plan, it has named some first ones of them.
@@ -122,57 +116,44 @@ impl Plan {
     /// table and its log serve the walk, are then set back to the function's start, and serve the
     /// text; two others have the marks of what may be written out as a constant and the lowest
     /// expression without a form that each is made of, and are given back as the list is.
-    pub fn of<'a>(
-        alloc: Global,
-        module: &'a Module,
-        info: &'a ModuleInfo,
+    pub fn of(
+        known: &KnownModule<'_>,
         ty: FunctionType,
-        tables: &'a ModuleTables,
-        names: &HashMap<NameKey, String>,
-        explicit: bool,
         namer: &mut Namer,
     ) -> Result<Plan, PlanError>
-        requires accepted { IsTrue (is_accepted «module».now info.now) }
-        requires there { IsFunctionOf ty «module».now }
-        requires tables { AreTablesOf «module».now tables.now }
-        requires names { HasNamesOf «module».now (names_in names.now) }
-        ensures ok { IfOk result
-            (IsPlanOf explicit «module».now info.now (function_number «module».now ty)) }
-        ensures named { IfOk result (λ p. NamesLabels namer.old []
-            (labels_named_in «module».now (function_number «module».now ty)) namer.new p.named) }
+        requires known { IsKnownModule known.now }
+        requires there { IsFunctionOf ty known.now.shader.now }
+        ensures ok { IfOk result (IsPlanIn known.now ty) }
+        ensures named { IfOk result (λ p.
+            NamesLabels namer.old [] (labels_in known.now ty) namer.new p.named) }
         ensures err { IfErr result
-            (IsRefusalToPlanOf explicit «module».now info.now (function_number «module».now ty)
-            namer.old) }
+            (IsRefusalToPlanOf (explicit_in known.now) known.now.shader.now known.now.info.now
+            (number_in known.now ty) namer.old) }
         ensures first { IfErr result
-            (IsFirstToPlanOf explicit «module».now info.now (function_number «module».now ty)
-            namer.old) }
-        ensures begun { OnErr result (HasBegunLabels namer.old
-            (labels_named_in «module».now (function_number «module».now ty)) namer.new) }
+            (IsFirstToPlanOf (explicit_in known.now) known.now.shader.now known.now.info.now
+            (number_in known.now ty) namer.old) }
+        ensures begun { OnErr result
+            (HasBegunLabels namer.old (labels_in known.now ty) namer.new) }
     {
-        let (function, function_info) = function_of(module, info, ty);
-        let known = KnownFunction {
-            shader: module,
-            module_info: info,
-            tables,
+        let (function, info) = function_of(known.shader, known.info, ty);
+        let function = KnownFunction {
+            whole: *known,
             function,
-            info: function_info,
+            info,
         };
-        Plan::of_function(alloc, &known, names, explicit, namer)
+        Plan::of_function(&function, annotates_types(known.flags), namer)
     }
 
     fn of_function(
-        alloc: Global,
         known: &KnownFunction<'_>,
-        names: &HashMap<NameKey, String>,
         explicit: bool,
         namer: &mut Namer,
     ) -> Result<Plan, PlanError>
+        requires known { IsKnownModule known.now.whole }
         requires ordered { OperandsStandBefore (expressions_of known.now) }
         requires results { ResultsFit (length (expressions_of known.now))
             known.now.function.now.body }
-        requires tables { AreTablesOf known.now.shader.now known.now.tables.now }
-        requires names { HasNamesOf known.now.shader.now (names_in names.now) }
-        requires types { AreKnownIn known.now.shader.now.types known.now.info.now }
+        requires types { AreKnownIn known.now.whole.shader.now.types known.now.info.now }
         ensures ok { IfOk result (IsPlanFor explicit known.now) }
         ensures named { IfOk result (λ p.
             NamesLabels namer.old [] (expression_labels known.now.function.now) namer.new p.named) }
@@ -181,6 +162,7 @@ impl Plan {
         ensures begun { OnErr result
             (HasBegunLabels namer.old (expression_labels known.now.function.now) namer.new) }
     {
+        let alloc = known.whole.alloc;
         let found = statements_in(alloc, &known.function.body)?;
         let statements = found.as_slice();
         let named = expression_names(alloc, known.function, statements, namer)?;
@@ -189,7 +171,7 @@ impl Plan {
         };
         let mut scope = Scope::start(alloc, known.function, changes)?;
         let start = scope.mark();
-        let lacks = lowest_lacks(alloc, known, names)?;
+        let lacks = lowest_lacks(known)?;
         let walk = Walk {
             known: *known,
             lacks: &lacks,

@@ -97,26 +97,26 @@ fn is_known_unsupported(
 }
 
 fn is_unsupported_let(known: &KnownFunction<'_>, handle: Handle<Expression>) -> bool
-    requires tables { AreTablesOf known.now.shader.now known.now.tables.now }
-    ensures { result ≡ is_unsupported_let known.now.shader.now known.now.info.now handle }
+    requires tables { AreTablesOf known.now.whole.shader.now known.now.whole.tables.now }
+    ensures { result ≡ is_unsupported_let known.now.whole.shader.now known.now.info.now handle }
 {
-    is_known_unsupported(known.shader, known.tables, known.info, handle)
+    is_known_unsupported(known.whole.shader, known.whole.tables, known.info, handle)
 }
 
 /// Whether a `let` binds the expression with this handle where it is emitted, and its type has no
 /// form.
 fn is_bound_unsupported(known: &KnownFunction<'_>, handle: Handle<Expression>) -> bool
-    requires tables { AreTablesOf known.now.shader.now known.now.tables.now }
+    requires tables { AreTablesOf known.now.whole.shader.now known.now.whole.tables.now }
     ensures { result ≡ (bound_in known.now handle
-        && is_unsupported_let known.now.shader.now known.now.info.now handle) }
+        && is_unsupported_let known.now.whole.shader.now known.now.info.now handle) }
 {
     known.binds(handle) && is_unsupported_let(known, handle)
 }
 
 /// The first of these expressions that a `let` binds and whose type has no form.
 fn emitted_without_form(known: &KnownFunction<'_>, range: Range) -> Option<Handle<Expression>>
-    requires tables { AreTablesOf known.now.shader.now known.now.tables.now }
-    ensures { result ≡ find (is_unsupported_let known.now.shader.now known.now.info.now)
+    requires tables { AreTablesOf known.now.whole.shader.now known.now.whole.tables.now }
+    ensures { result ≡ find (is_unsupported_let known.now.whole.shader.now known.now.info.now)
         (filter (bound_in known.now) (from range.first (range.end - range.first))) }
 {
     for index in range.first..range.end {
@@ -133,8 +133,8 @@ fn result_without_form(
     known: &KnownFunction<'_>,
     statement: &Statement,
 ) -> Option<Handle<Expression>>
-    requires tables { AreTablesOf known.now.shader.now known.now.tables.now }
-    ensures { result ≡ find (is_unsupported_let known.now.shader.now known.now.info.now)
+    requires tables { AreTablesOf known.now.whole.shader.now known.now.whole.tables.now }
+    ensures { result ≡ find (is_unsupported_let known.now.whole.shader.now known.now.info.now)
         (option_to_list (own_result (tree_of statement.now))) }
 {
     match statement.result() {
@@ -152,8 +152,8 @@ fn result_without_form(
 /// The first expression that the statement's `let`s name, those in its blocks left out, whose type
 /// has no form.
 fn let_in_statement(known: &KnownFunction<'_>, statement: &Statement) -> Option<Handle<Expression>>
-    requires tables { AreTablesOf known.now.shader.now known.now.tables.now }
-    ensures { result ≡ find (is_unsupported_let known.now.shader.now known.now.info.now)
+    requires tables { AreTablesOf known.now.whole.shader.now known.now.whole.tables.now }
+    ensures { result ≡ find (is_unsupported_let known.now.whole.shader.now known.now.info.now)
         (own_lets (bound_in known.now) (tree_of statement.now)) }
 {
     match statement {
@@ -168,8 +168,8 @@ pub(crate) fn annotated_without_form(
     statement: &Statement,
     explicit: bool,
 ) -> Option<Handle<Expression>>
-    requires tables { AreTablesOf known.now.shader.now known.now.tables.now }
-    ensures { result ≡ own_annotated explicit known.now.shader.now known.now.info.now
+    requires tables { AreTablesOf known.now.whole.shader.now known.now.whole.tables.now }
+    ensures { result ≡ own_annotated explicit known.now.whole.shader.now known.now.info.now
         (bound_in known.now) (tree_of statement.now) }
 {
     if explicit {

@@ -524,9 +524,13 @@ impl Walk<'_> {
     fn check_signature(&self) -> Result<(), PlanError>
         requires tables { HasTables self.now }
         ensures { result ≡ unless_lack tt
-            (signature_lack self.now.known.shader.now self.now.known.function.now) }
+            (signature_lack self.now.known.whole.shader.now self.now.known.function.now) }
     {
-        match signature_without_form(self.known.shader, self.known.tables, self.known.function) {
+        match signature_without_form(
+            self.known.whole.shader,
+            self.known.whole.tables,
+            self.known.function,
+        ) {
             Some((declared, ty)) => Err(PlanError::TypeWithoutForm(declared, ty)),
             None => Ok(()),
         }
@@ -540,10 +544,15 @@ impl Walk<'_> {
     ) -> Result<(), PlanError>
         requires tables { HasTables self.now }
         ensures { result ≡ unless_lack tt
-            (if is_unspellable self.now.known.shader.now local.now.ty
+            (if is_unspellable self.now.known.whole.shader.now local.now.ty
             then Some (TypeWithoutForm (Local handle) local.now.ty) else None) }
     {
-        if self.known.tables.is_spellable(self.known.shader, local.ty) {
+        if self
+            .known
+            .whole
+            .tables
+            .is_spellable(self.known.whole.shader, local.ty)
+        {
             Ok(())
         } else {
             Err(PlanError::TypeWithoutForm(Declared::Local(handle), local.ty))

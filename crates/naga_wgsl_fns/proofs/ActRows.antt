@@ -1,4 +1,5 @@
 -- The texts of statements that ask for something, and of barriers, from what is written of them in turn.
+-- Serves 5 contracts, `write_barrier` among them.
 use Rattle.std.proofs.Common.{◌≡◌, ℕ, ◌*◌, Bool, true, false, List, [], ◌++◌, codes, replicate}
 use Rattle.std.proofs.Common.{Option, Some, None, refl, sym, ap, ◌∙◌, append_assoc}
 use Rattle.std.proofs.lemmas.List.{append-nil}

@@ -1,4 +1,5 @@
 -- The blanks in front of a line: one level more, and back at a level.
+-- Serves `back_to`, `deepen` and `grow`.
 use Rattle.std.proofs.Common.{◌≡◌, ℕ, zero, suc, ◌+◌, ◌*◌, ◌≤◌, ◌<◌, List, [], ◌∷◌, ◌++◌}
 use Rattle.std.proofs.Common.{codes, length, length-append, take, get_or}
 use Rattle.std.proofs.Common.{refl, sym, ap, ◌∙◌, arith, subst, Option, Some, None, true}

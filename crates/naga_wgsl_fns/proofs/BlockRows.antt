@@ -1,4 +1,5 @@
 -- The texts of blocks and of choices, from what is written of them in turn.
+-- Serves 10 contracts, `write_braces` among them.
 use Rattle.std.proofs.Common.{cond, ◌≡◌, ℕ, ◌*◌, suc, true, false, List, [], ◌++◌, codes, replicate}
 use Rattle.std.proofs.Common.{refl, ap, ◌∙◌, append_assoc}
 use Rattle.naga_form.specs.Expressions.{value_form}

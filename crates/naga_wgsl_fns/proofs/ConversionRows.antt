@@ -1,4 +1,5 @@
 -- The text of a conversion, from what is written of it in turn.
+-- Serves `expression`, `write_bitcast`, `write_cast` and `write_cast_callee`.
 use Rattle.std.proofs.Common.{◌≡◌, ℕ, Bool, true, false, List, [], ◌++◌, Option, Some, codes, refl}
 use Rattle.std.proofs.Common.{sym, ap, subst, ◌∙◌}
 use Rattle.std.proofs.lemmas.Option.{same_Some}
@@ -23,7 +24,7 @@ use Rattle.naga_ir.specs.declared.types.TypeInner.TheVariants as inner
 use Rattle.naga_scope.specs.declared.points.Availability.{Availability}
 use Rattle.naga_words.specs.Output.{joined_texts}
 use Rattle.naga_wgsl_fns.proofs.ExpressionRows.{own_typed}
-use Rattle.naga_wgsl_fns.specs.Expressions.{bitcast_text, callee_text, cast_text, conversion_callee}
+use Rattle.naga_wgsl_fns.specs.Expressions.{bitcast_text, callee_text, cast_text, typed_callee}
 use Rattle.naga_wgsl_fns.specs.Expressions.{form_at, made_text, operands_at, operands_text}
 use Rattle.naga_wgsl_fns.specs.Expressions.{own_text}
 use Rattle.naga_wgsl_fns.specs.FunctionText.{CanWrite, IsInText, context, expressions}
@@ -35,15 +36,13 @@ use Rattle.wgsl_text.specs.Expressions.{operands as arguments_of}
 use Rattle.wgsl_text.specs.Reading.{printed_type}
 use Rattle.wgsl_text.specs.Types.{TypeSpecifier, Named as NamedType}
 
-pub conversion_row : (f : FunctionText) (table : List Availability) (operand : ℕ)
-    (kind : ScalarKind)
-    (convert : Option ℕ) (handle : ℕ) →
-    made_text f table (conversion_callee f operand kind convert) handle ≡
-    joined_texts (callee_text f operand kind convert)
-    (joined_texts (codes "(") (operands_text f table handle))
+-- what is called by an operator that has a type
+pub typed_row : (f : FunctionText) (table : List Availability) (e : ir.Expression) (handle : ℕ) →
+    made_text f table (typed_callee f e) handle ≡
+    joined_texts (callee_text f e) (joined_texts (codes "(") (operands_text f table handle))
 unfolding made_text callee_text operands_text joined_texts
-conversion_row f table operand kind convert handle =
-    call_row_text (conversion_callee f operand kind convert)
+typed_row f table e handle =
+    call_row_text (typed_callee f e)
     (arguments_of (value_forms (form_at f table) (operands_at f handle)))
 
 -- ---- types
@@ -68,12 +67,12 @@ target_fits overrides types _ to kind convert is = absurd cc
 module _ (f : FunctionText) (operand : ℕ) (kind : ScalarKind) (convert : Option ℕ)
     (from to : TypeInner) (known : type_known (context f) operand ≡ Some from)
     (target : conversion_target from kind convert ≡ Some to)
-    (formed : has_type_form f.shader.now.types (Value to) ≡ true) where
+    (formed : has_type_form f.known.shader.now.types (Value to) ≡ true) where
   abbrev tree : TypeSpecifier
   tree = (tree_there (type_names_of f) (Value to) formed).0
 
   -- what is called, by the tree of the type
-  callee_is : conversion_callee f operand kind convert ≡ cast_tree (keeps_bits from convert) tree
+  callee_is : typed_callee f (As operand kind convert) ≡ cast_tree (keeps_bits from convert) tree
   callee_is =
       ap (λ o. unwrap_or o (NamedType []))
       (conversion_is (context f) (type_names_of f) operand kind convert from to _ known target
@@ -86,7 +85,7 @@ module _ (f : FunctionText) (operand : ℕ) (kind : ScalarKind) (convert : Optio
       (tree_there (type_names_of f) (Value to) formed).1
 
   pub callee_row : (bits : Bool) → bits ≡ keeps_bits from convert →
-      cast_text f bits (Value to) ≡ callee_text f operand kind convert
+      cast_text f bits (Value to) ≡ callee_text f (As operand kind convert)
   unfolding callee_text cast_text bitcast_text
   callee_row bits is =
       by bits
@@ -114,11 +113,11 @@ cast_else f bits ty is = sym (ap (λ b. if b then bitcast_text f ty else resolut
 -- ---- what an expression is made of that is a conversion
 pub own_conversion : (f : FunctionText) (table : List Availability) {handle : ℕ} {e : ir.Expression}
     {operand : ℕ} {kind : ScalarKind} {convert : Option ℕ} → CanWrite f → IsInText f handle →
-    expression_has_own_form f.shader.now f.info.now (As operand kind convert) ≡ true →
+    expression_has_own_form f.known.shader.now f.info.now (As operand kind convert) ≡ true →
     slice_get (expressions f) handle ≡ Some e → e ≡ As operand kind convert →
-    made_text f table (conversion_callee f operand kind convert) handle ≡ own_text f table handle
+    made_text f table (typed_callee f (As operand kind convert)) handle ≡ own_text f table handle
 own_conversion f table {handle} {e} {operand} {kind} {convert} can within may here is =
-    let c = conversion f.shader.now f.module_info.now f.info.now operand kind convert may in
+    let c = conversion f.known.shader.now f.known.info.now f.info.now operand kind convert may in
     let called =
     conversion_is (context f) (type_names_of f) operand kind convert c.from c.to c.tree c.known
     c.target c.is in

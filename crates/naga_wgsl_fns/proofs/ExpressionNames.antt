@@ -1,4 +1,5 @@
 -- The names that front ends gave in a function, after labels that were named before.
+-- Serves `write_by_plan` and `write_function`.
 use Rattle.std.proofs.Common.{◌≡◌, ◌≤◌, ◌^◌, ◌∙◌, ◌++◌, ℕ, zero, suc, List, [], ◌∷◌, append-nil}
 use Rattle.std.proofs.Common.{append_assoc, ap, get_or, refl, slice_get, subst, sym, take}
 use Rattle.std.specs.Option.{option_map_or}

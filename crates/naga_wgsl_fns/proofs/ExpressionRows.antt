@@ -1,5 +1,6 @@
 -- The text of an expression by its kind and by where it stands, and from what is written of it in
 -- turn.
+-- Serves 30 contracts, `write_address` among them.
 use Rattle.module_semantics.specs.ExpressionForms.{expression_has_own_form}
 use Rattle.naga_wgsl_fns.proofs.Preconditions.{IsNoOther, expression_formed, ordered}
 use Rattle.std.proofs.Common.{◌≡◌, ℕ, zero, suc, ◌<◌, Bool, true, false, List, [], ◌∷◌, length}
@@ -230,8 +231,8 @@ abbrev pub own_at : FunctionText → (table : List Availability) →
     (handle : ℕ) → Option ir.Expression →
     List ℕ
 own_at f table handle (Some (expression.Literal value)) = literal_text value
-own_at f table handle (Some (expression.Constant c)) = constant_text f.shader.now c
-own_at f table handle (Some (expression.Override o)) = name_of_override f.shader.now o
+own_at f table handle (Some (expression.Constant c)) = constant_text f.known.shader.now c
+own_at f table handle (Some (expression.Override o)) = name_of_override f.known.shader.now o
 own_at f table handle (Some (expression.ZeroValue ty)) =
     applied_text f table
     (notation (type_tree (type_names_of f) ty) (constructor (context f) (Handle ty) 0)) []
@@ -311,9 +312,9 @@ own_row f table handle can within = by (slice_get (expressions f) handle) refl
     by (Some (expression.FunctionArgument number)) at = name_text (name_of_argument f number)
     by (Some (expression.Override o)) at =
         name_text ((type_names_of f).override_name o)
-        ∙ or_nothing (module_names f.shader.now (key.Override o))
+        ∙ or_nothing (module_names f.known.shader.now (key.Override o))
     by (Some (expression.GlobalVariable variable)) at =
-        of_module variable (is_handle_variable f.shader.now variable)
+        of_module variable (is_handle_variable f.known.shader.now variable)
     by (Some (expression.LocalVariable local)) at = refl
     by (Some (expression.Load pointer)) at =
         loaded pointer (is_atomic_pointer (context f) pointer)
@@ -403,7 +404,7 @@ reference_row f table handle can within =
 
     of_module : form_at f table handle ≡ own e → (variable : ℕ) →
         e ≡ Some (expression.GlobalVariable variable) → (is_handle : Bool) →
-        is_handle_variable f.shader.now variable ≡ is_handle →
+        is_handle_variable f.known.shader.now variable ≡ is_handle →
         printed_expression (as_reference (own (Some (expression.GlobalVariable variable)))) ≡
         global_reference_text f table handle variable
     of_module mine variable at true is =
@@ -420,7 +421,7 @@ reference_row f table handle can within =
     kind : form_at f table handle ≡ own e → (o : Option ir.Expression) → e ≡ o →
         printed_expression (as_reference (own o)) ≡ reference_by f table handle o
     kind mine (Some (expression.GlobalVariable variable)) at =
-        of_module mine variable at (is_handle_variable f.shader.now variable) refl
+        of_module mine variable at (is_handle_variable f.known.shader.now variable) refl
     kind mine (Some (expression.Override o)) at =
         pointed_by mine (Some (expression.Override o)) at refl
     kind mine (Some (expression.LocalVariable local)) at = name_text (name_of_local f local)
@@ -532,7 +533,7 @@ own_typed f table handle e own t n can within called here is made =
 -- or makes a value of a type of the module
 pub own_made : (f : FunctionText) (table : List Availability) {handle : ℕ} (ty components : ℕ)
     {e own : ir.Expression} → CanWrite f → IsInText f handle →
-    IsTrue (has_type_form f.shader.now.types (Handle ty)) →
+    IsTrue (has_type_form f.known.shader.now.types (Handle ty)) →
     slice_get (expressions f) handle ≡ Some e → e ≡ own →
     own_at f table handle (Some own) ≡
     applied_text f table
@@ -636,7 +637,7 @@ no_value_row f table handle can within e here none =
     sym (own_row f table handle can within
     ∙ (ap (own_at f table handle) here ∙ by e (expression_formed f can handle e here within) none))
   where
-    by : (e : ir.Expression) → IsTrue (expression_has_own_form f.shader.now f.info.now e) → IsNoOther e →
+    by : (e : ir.Expression) → IsTrue (expression_has_own_form f.known.shader.now f.info.now e) → IsNoOther e →
         own_at f table handle (Some e) ≡ codes "false"
     by (expression.Literal v) is none = absurd (none.literal v refl)
     by (expression.Constant c) is none = absurd (none.constant c refl)

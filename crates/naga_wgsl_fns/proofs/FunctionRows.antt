@@ -1,11 +1,12 @@
 -- Each function of an accepted module of which all that is written has a form can be written; and the
 -- texts of its parts, from what is written of them in turn.
+-- Serves 17 contracts, `write_answer` among them.
 use Rattle.std.proofs.Common.{◌≡◌, ℕ, ◌+◌, ◌-◌, ◌<◌, ◌≤◌, ◌==◌, zero, suc, add-one, arith, ne_eqb}
 use Rattle.std.proofs.Common.{false, Option, None, Some, refl, sym, ap, subst, ◌∙◌, codes, List, []}
 use Rattle.std.proofs.Common.{◌∷◌, ◌++◌, append_assoc, drop, length, slice_get, slice_index_or}
 use Rattle.std.proofs.Common.{get_or, map, string_bytes, ◌^◌}
 use Rattle.std.specs.declared.string.String.{String}
-use Rattle.std.specs.Prelude.{if◌then◌else◌, unwrap_or, vec_len, IsTrue}
+use Rattle.std.specs.Prelude.{if◌then◌else◌, unwrap_or, vec_len}
 use Rattle.std.specs.Option.{option_map_or}
 use Rattle.std.proofs.lemmas.Bool.{lt-ltb}
 use Rattle.std.proofs.lemmas.List.{append-nil, drop_all}
@@ -17,7 +18,6 @@ use Rattle.naga_ir.specs.declared.module.LocalVariable.{LocalVariable}
 use Rattle.naga_ir.specs.declared.module.Module.{Module}
 use Rattle.naga_info.specs.declared.info.ExpressionInfo.{ExpressionInfo}
 use Rattle.naga_info.specs.declared.info.ModuleInfo.{ModuleInfo}
-use Rattle.module_semantics.specs.acceptance.Accepted.{is_accepted}
 use Rattle.module_semantics.specs.DeclarationForms.{HeadHasForm, entry_point_numbered}
 use Rattle.naga_form.specs.Expressions.{value_form}
 use Rattle.naga_form.specs.Statements.{lines_form}
@@ -32,17 +32,16 @@ use Rattle.module_semantics.specs.FunctionNumbers.{IsFunctionOf, all_functions, 
 use Rattle.module_semantics.specs.FunctionNumbers.{function_number}
 use Rattle.wgsl_text.proofs.Functions.{value_text as value_row_text, locals_text as local_row_text}
 use Rattle.wgsl_text.proofs.Functions.{function_text as function_row_text}
-use Rattle.naga_naming.specs.Keys.{names_in}
 use Rattle.shader_runs.specs.Scope.{Handles}
 use Rattle.module_semantics.specs.ExpressionLabels.{expression_labels}
-use Rattle.module_semantics.specs.Names.{HasNamesOf, module_names}
+use Rattle.module_semantics.specs.Names.{module_names}
 use Rattle.module_semantics.specs.Written.{WrittenHaveForms}
-use Rattle.naga_tables.specs.Tables.{AreTablesOf}
 use Rattle.naga_scope.specs.Availabilities.{TextPoint}
 use Rattle.naga_scope.specs.declared.points.Availability.{Availability}
 use Rattle.naga_words.specs.Output.{joined_texts}
 use Rattle.wgsl_text.specs.Reading.{printed_expression, printed_type}
 use Rattle.wgsl_text.specs.Text.{text}
+use Rattle.naga_scope.specs.KnownModules.{IsKnownModule}
 use Rattle.naga_wgsl_fns.specs.declared.functions.FunctionText.{FunctionText}
 use Rattle.naga_wgsl_fns.specs.FunctionText.{handles_in, named_in, number, CanWrite, source, naming}
 use Rattle.naga_wgsl_fns.specs.FunctionText.{let_annotation, type_names_of}
@@ -72,27 +71,23 @@ known_is : (info : ModuleInfo) (g : ℕ) (es : List ExpressionInfo) → slice_ge
     known_of info g ≡ es
 known_is info g es at = ap (λ o. unwrap_or o []) at
 
-pub can_write : (t : FunctionText) → IsTrue (is_accepted t.shader.now t.module_info.now) →
-    AreTablesOf t.shader.now t.tables.now → HasNamesOf t.shader.now (names_in t.names.now) →
-    IsFunctionOf t.ty t.shader.now →
-    slice_get (all_functions t.shader.now) (number t) ≡ Some t.function.now →
-    slice_get (all_infos t.module_info.now) (number t) ≡ Some t.info.now →
-    WrittenHaveForms (annotates_types t.flags) t.shader.now t.module_info.now t.function.now
-    t.info.now → HeadHasForm t.shader.now (number t) →
+pub can_write : (t : FunctionText) → IsKnownModule t.known → IsFunctionOf t.ty t.known.shader.now →
+    slice_get (all_functions t.known.shader.now) (number t) ≡ Some t.function.now →
+    slice_get (all_infos t.known.info.now) (number t) ≡ Some t.info.now →
+    WrittenHaveForms (annotates_types t.known.flags) t.known.shader.now t.known.info.now t.function.now
+    t.info.now → HeadHasForm t.known.shader.now (number t) →
     length (expression_labels t.function.now) < 2 ^ 64 → CanWrite t
-can_write t accepted tables named there here known formed head room =
-    let m = t.shader.now in
-    let info = t.module_info.now in
+can_write t can there here known formed head room =
+    let m = t.known.shader.now in
+    let info = t.known.info.now in
     let f = t.function.now in
     record {
-      named = named;
-      tables = tables;
-      accepted = accepted;
+      known = can;
       there = there;
       function = here;
       infos = known;
-      ranges = ranges_of m info accepted t.ty there f here;
-      size = (of_number m info accepted (number t) f t.info.now here known).size;
+      ranges = ranges_of m info can.accepted t.ty there f here;
+      size = (of_number m info can.accepted (number t) f t.info.now here known).size;
       formed = formed;
       head = head;
       room = room;
@@ -115,15 +110,15 @@ names_same slice names named same are number =
 
 -- the text of a function that there is
 pub text_under_names : (t : FunctionText) →
-    slice_get (all_functions t.shader.now) (number t) ≡ Some t.function.now →
-    slice_get (all_infos t.module_info.now) (number t) ≡ Some t.info.now →
-    text_under t.shader.now t.module_info.now t.flags (named_in t) (number t) ≡ item_text t
+    slice_get (all_functions t.known.shader.now) (number t) ≡ Some t.function.now →
+    slice_get (all_infos t.known.info.now) (number t) ≡ Some t.info.now →
+    text_under t.known.shader.now t.known.info.now t.known.flags (named_in t) (number t) ≡ item_text t
 unfolding item_text function_text
 text_under_names t here known =
-    let m = t.shader.now in
-    let info = t.module_info.now in
+    let m = t.known.shader.now in
+    let info = t.known.info.now in
     let form = λ (f : Function) (es : List ExpressionInfo).
-    text_of m info t.flags (named_in t) (number t) f es in
+    text_of m info t.known.flags (named_in t) (number t) f es in
     ap (λ o. option_map_or (λ f. form f (known_of info (number t))) o []) here
     ∙ ap (form t.function.now) (known_is info (number t) t.info.now known)
 
@@ -171,9 +166,11 @@ result_row f = by f.function.now.result
 -- what is left of the arguments from this number on, with the parenthesis after the last
 abbrev pub arguments_left : FunctionText → ℕ → List FunctionArgument → List ℕ
 arguments_left f zero more =
-    text (parameters_pieces (parameters_form (module_names f.shader.now) f.shader.now (number f) zero more))
+    text (parameters_pieces
+    (parameters_form (module_names f.known.shader.now) f.known.shader.now (number f) zero more))
 arguments_left f (suc n) more =
-    text (more_parameters_pieces (parameters_form (module_names f.shader.now) f.shader.now (number f) (suc n) more))
+    text (more_parameters_pieces
+    (parameters_form (module_names f.known.shader.now) f.known.shader.now (number f) (suc n) more))
 
 pub arguments_start : (f : FunctionText) → arguments_text f ≡ arguments_left f 0 f.function.now.arguments.items
 unfolding arguments_text
@@ -186,18 +183,20 @@ unfolding next_argument_text argument_text joined_texts
 arguments_row f n a more = by n
   where
     form : ℕ → List FunctionArgument → List Parameter
-    form n more = parameters_form (module_names f.shader.now) f.shader.now (number f) n more
+    form n more = parameters_form (module_names f.known.shader.now) f.known.shader.now (number f) n more
 
     later : (n : ℕ) → text (more_parameters_pieces (form (n + 1) more)) ≡ arguments_left f (n + 1) more
     later n = rw add-one refl
 
     split : (n : ℕ) →
         text (parameter_pieces
-        (parameter_form (module_names f.shader.now) f.shader.now (number f) n a) ++
+        (parameter_form (module_names f.known.shader.now) f.known.shader.now (number f) n a) ++
         more_parameters_pieces (form (n + 1) more)) ≡ argument_text f n a ++ arguments_left f
         (n + 1) more
     split n =
-        text-append (parameter_pieces (parameter_form (module_names f.shader.now) f.shader.now (number f) n a))
+        text-append
+        (parameter_pieces
+        (parameter_form (module_names f.known.shader.now) f.known.shader.now (number f) n a))
         (more_parameters_pieces (form (n + 1) more))
         ∙ ap (λ t. argument_text f n a ++ t) (later n)
 
@@ -341,7 +340,7 @@ function_row f =
 
 -- ---- the stage in front
 pub item_row : (f : FunctionText) →
-    item_text f ≡ joined_texts (stage_before f.shader.now (number f)) (function_text f)
+    item_text f ≡ joined_texts (stage_before f.known.shader.now (number f)) (function_text f)
 unfolding item_text joined_texts
 item_row f = refl
 
@@ -360,25 +359,25 @@ entry_point_within m j lt =
 
 -- one that was read at its index stands there
 pub own_entry_point : (f : FunctionText) → CanWrite f → (j : ℕ) → f.ty ≡ item.EntryPoint j →
-    (p : EntryPoint) → p ≡ get_or f.shader.now.entry_points.items j p →
-    slice_get f.shader.now.entry_points.items j ≡ Some p
+    (p : EntryPoint) → p ≡ get_or f.known.shader.now.entry_points.items j p →
+    slice_get f.known.shader.now.entry_points.items j ≡ Some p
 own_entry_point f can j is p read =
-    let m = f.shader.now in
+    let m = f.known.shader.now in
     let lt = subst (λ ty. IsFunctionOf ty m) is can.there in
     slice_get_read m.entry_points.items (length m.entry_points.items) j p refl
     (entry_point_within m j lt) read
 
 -- the entry point of a function
 pub entry_point_there : (f : FunctionText) → CanWrite f → (j : ℕ) → f.ty ≡ item.EntryPoint j →
-    (p : EntryPoint) → slice_get f.shader.now.entry_points.items j ≡ Some p →
-    entry_point_numbered f.shader.now (number f) ≡ Some p
+    (p : EntryPoint) → slice_get f.known.shader.now.entry_points.items j ≡ Some p →
+    entry_point_numbered f.known.shader.now (number f) ≡ Some p
 entry_point_there f can j is p at =
-    let m = f.shader.now in
+    let m = f.known.shader.now in
     ap (λ ty. entry_point_numbered m (function_number m ty)) is
     ∙ (entry_point_at m j ∙ at)
 
 pub stage_row : (f : FunctionText) → CanWrite f → (j : ℕ) → f.ty ≡ item.EntryPoint j →
-    (p : EntryPoint) → slice_get f.shader.now.entry_points.items j ≡ Some p →
-    stage_before f.shader.now (number f) ≡ stage_text f.shader.now p
+    (p : EntryPoint) → slice_get f.known.shader.now.entry_points.items j ≡ Some p →
+    stage_before f.known.shader.now (number f) ≡ stage_text f.known.shader.now p
 stage_row f can j is p at =
-    ap (λ o. option_map_or (stage_text f.shader.now) o []) (entry_point_there f can j is p at)
+    ap (λ o. option_map_or (stage_text f.known.shader.now) o []) (entry_point_there f can j is p at)

@@ -1,4 +1,5 @@
 -- The texts of operations on images, from what is written of them in turn.
+-- Serves `expression` and `write_sampling_head`.
 use Rattle.std.proofs.Common.{◌≡◌, ℕ, zero, suc, ◌<◌, Bool, true, false, List, [], ◌∷◌, ◌++◌, codes}
 use Rattle.std.proofs.Common.{Option, Some, None, refl, sym, ap, ap₂, ◌∙◌, arith, length, map}
 use Rattle.std.proofs.Common.{append_assoc, decimal}
@@ -31,7 +32,7 @@ use Rattle.naga_wgsl_fns.proofs.Preconditions.{all_before}
 use Rattle.naga_wgsl_fns.specs.Expressions.{form_at, next_operand_text, own_text, value_text}
 use Rattle.naga_wgsl_fns.specs.FunctionText.{CanWrite, context, expressions, naming, source}
 use Rattle.naga_wgsl_fns.specs.FunctionText.{type_names_of}
-use Rattle.naga_wgsl_fns.specs.Images.{component_text, depths_at, furthers_text, head_text}
+use Rattle.naga_wgsl_fns.specs.Images.{component_text, depths_at, furthers_text, head_text, sampled_word}
 use Rattle.naga_wgsl_fns.specs.Images.{level_text, offset_text, zero_text}
 use Rattle.naga_wgsl_fns.specs.declared.functions.FunctionText.{FunctionText}
 use Rattle.shader_runs.specs.Premises.{AllBelow}
@@ -242,28 +243,25 @@ head_then : (f : FunctionText) (image : ℕ) (gather : Option SwizzleComponent) 
     image_sample_operator (depths_at f image) gather (level_of l) compares clamped arrayed with_offset in
     printed_expression
     (Call (Named (sampling_word op)) (component_then (gathered_component op) (Argument e args))) ≡
-    joined_texts (head_text f image gather l compares clamped)
+    joined_texts (head_text f (sampled_word f image gather l compares clamped) image gather)
     (joined_texts (printed_expression e) (text (more_arguments_pieces args)))
 unfolding head_text joined_texts
 head_then f image gather l compares clamped arrayed with_offset e args =
     head_of e args (depths_at f image) gather l compares clamped arrayed with_offset
 
-pub head_row : (f : FunctionText) (image : ℕ) (gather : Option SwizzleComponent) (l : SampleLevel)
-    (compares clamped : Bool) →
-    head_text f image gather l compares clamped ≡
-    joined_texts
-    (sampling_word (image_sample_operator (depths_at f image) gather (level_of l) compares clamped false false))
-    (joined_texts (codes "(") (component_text (depths_at f image) gather))
+pub head_row : (f : FunctionText) (word : List ℕ) (image : ℕ) (gather : Option SwizzleComponent) →
+    head_text f word image gather ≡
+    joined_texts word (joined_texts (codes "(") (component_text (depths_at f image) gather))
 unfolding head_text joined_texts
-head_row f image gather l compares clamped = refl
+head_row f word image gather = refl
 
 -- ---- samplings
--- one in turn, by whether something is compared and by the text of its level
+-- one in turn, by its word and by the text of its level
 abbrev in_turn : (f : FunctionText) (table : List Availability) (image sampler : ℕ)
     (gather : Option SwizzleComponent) (coordinate : ℕ) (array_index offset : Option ℕ)
-    (l : SampleLevel) (depth_ref : Option ℕ) (clamp compares : Bool) (level : List ℕ) → List ℕ
-in_turn f table image sampler gather coordinate array_index offset l depth_ref clamp compares level =
-    joined_texts (head_text f image gather l compares clamp)
+    (l : SampleLevel) (depth_ref : Option ℕ) (word level : List ℕ) → List ℕ
+in_turn f table image sampler gather coordinate array_index offset l depth_ref word level =
+    joined_texts (head_text f word image gather)
     (joined_texts (value_text f table image)
     (joined_texts (next_operand_text f table false sampler)
     (joined_texts (next_operand_text f table false coordinate)
@@ -279,8 +277,9 @@ pub sampling_row : (f : FunctionText) (table : List Availability) (handle : ℕ)
     Some
     (expression.ImageSample image sampler gather coordinate array_index offset l depth_ref clamp) →
     own_text f table handle ≡
-    in_turn f table image sampler gather coordinate array_index offset l depth_ref clamp
-    (is_some depth_ref) (level_text f image l (is_some gather || (is_some depth_ref || clamp)))
+    in_turn f table image sampler gather coordinate array_index offset l depth_ref
+    (sampled_word f image gather l (is_some depth_ref) clamp)
+    (level_text f image l (is_some gather || (is_some depth_ref || clamp)))
 unfolding own_text value_text
 sampling_row f table handle image sampler gather coordinate array_index offset l depth_ref clamp at =
     let form = form_at f table in
@@ -306,7 +305,7 @@ sampling_row f table handle image sampler gather coordinate array_index offset l
     (as_value (form image))
     (operands_then (value_forms form (sampler ∷ coordinate ∷ following)) last)
     ∙ ap
-    (λ w. joined_texts (head_text f image gather l (is_some depth_ref) clamp)
+    (λ w. joined_texts (head_text f (sampled_word f image gather l (is_some depth_ref) clamp) image gather)
     (joined_texts (printed_expression (as_value (form image))) w))
     (next_then f table sampler (coordinate ∷ following) last
     ∙ ap (joined_texts (next_operand_text f table false sampler))
@@ -329,15 +328,17 @@ pub sampling_whole : (f : FunctionText) (table : List Availability) (handle : �
     slice_get (expressions f) handle ≡
     Some
     (expression.ImageSample image sampler gather coordinate array_index offset l depth_ref clamp) →
-    (compares : Bool) → compares ≡ is_some depth_ref → (w : List ℕ) →
+    (compares : Bool) → compares ≡ is_some depth_ref → (word : List ℕ) →
+    word ≡ sampled_word f image gather l compares clamp → (w : List ℕ) →
     w ≡ level_text f image l (is_some gather || (compares || clamp)) →
-    in_turn f table image sampler gather coordinate array_index offset l depth_ref clamp compares w ≡
+    in_turn f table image sampler gather coordinate array_index offset l depth_ref word w ≡
     own_text f table handle
 sampling_whole f table handle image sampler gather coordinate array_index offset l depth_ref clamp at
-    compares is w level_is =
+    compares is word word_is w level_is =
     ap₂
-    (λ b w. in_turn f table image sampler gather coordinate array_index offset l depth_ref clamp b w)
-    is (level_is ∙ ap (λ b. level_text f image l (is_some gather || (b || clamp))) is)
+    (λ word w. in_turn f table image sampler gather coordinate array_index offset l depth_ref word w)
+    (word_is ∙ ap (λ b. sampled_word f image gather l b clamp) is)
+    (level_is ∙ ap (λ b. level_text f image l (is_some gather || (b || clamp))) is)
     ∙ sym
     (sampling_row f table handle image sampler gather coordinate array_index offset l depth_ref clamp
     at)

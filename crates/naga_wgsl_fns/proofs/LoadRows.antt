@@ -1,5 +1,6 @@
 -- The texts of loads: by whether an atomic is loaded, and of a cooperative matrix from what is written
 -- of it in turn.
+-- Serves `expression`, `write_matrix_callee` and `write_taking`.
 use Rattle.std.proofs.Common.{◌≡◌, ℕ, Bool, true, false, List, [], ◌∷◌, ◌++◌, Some, codes, ap, refl}
 use Rattle.std.proofs.Common.{sym, ◌∙◌}
 use Rattle.std.specs.Prelude.{slice_get, unwrap_or, if◌then◌else◌}
@@ -12,7 +13,7 @@ use Rattle.naga_form.proofs.operators.AllowedParts.{loaded_matrix}
 use Rattle.naga_form.proofs.operators.Operators.{load_called, load_text as loaded_text, matrix_is}
 use Rattle.naga_form.proofs.operators.Operators.{typed_notation}
 use Rattle.naga_form.proofs.types.WrittenTypes.{tree_there}
-use Rattle.naga_form.specs.Expressions.{load_tree, scalar_pointed, value_forms}
+use Rattle.naga_form.specs.Expressions.{load_tree, scalar_pointed}
 use Rattle.naga_form.specs.Operators.{Called}
 use Rattle.naga_info.specs.declared.info.TypeResolution.{TypeResolution}
 use Rattle.naga_info.specs.declared.info.TypeResolution.TheVariants.{Value}
@@ -28,16 +29,13 @@ use Rattle.naga_ir.specs.declared.types.TypeInner.TheVariants as inner
 use Rattle.naga_scope.specs.declared.points.Availability.{Availability}
 use Rattle.naga_words.specs.Output.{joined_texts}
 use Rattle.naga_wgsl_fns.proofs.ExpressionRows.{own_typed}
-use Rattle.naga_wgsl_fns.specs.Expressions.{applied_text, called_text, form_at, load_text}
-use Rattle.naga_wgsl_fns.specs.Expressions.{load_word, made_text, matrix_callee, matrix_callee_text}
-use Rattle.naga_wgsl_fns.specs.Expressions.{operands_at, operands_text, own_text, reference_text}
-use Rattle.naga_wgsl_fns.specs.Expressions.{taking_text}
+use Rattle.naga_wgsl_fns.specs.Expressions.{applied_text, callee_text, called_text, load_text}
+use Rattle.naga_wgsl_fns.specs.Expressions.{load_word, made_text, own_text, reference_text}
+use Rattle.naga_wgsl_fns.specs.Expressions.{taking_text, typed_callee}
 use Rattle.naga_wgsl_fns.specs.FunctionText.{CanWrite, IsInText, context, expressions}
 use Rattle.naga_wgsl_fns.specs.FunctionText.{type_names_of}
 use Rattle.naga_wgsl_fns.specs.Types.{resolution_text}
 use Rattle.naga_wgsl_fns.specs.declared.functions.FunctionText.{FunctionText}
-use Rattle.wgsl_text.proofs.Expressions.{call_text as call_row_text}
-use Rattle.wgsl_text.specs.Expressions.{operands as arguments_of}
 use Rattle.wgsl_text.specs.Reading.{printed_type}
 use Rattle.wgsl_text.specs.Types.{TypeSpecifier, Named as NamedType}
 
@@ -67,21 +65,11 @@ other_loaded f table pointer is =
     else reference_text f table pointer) is)
 
 -- ---- cooperative matrices
-pub matrix_row : (f : FunctionText) (table : List Availability) (columns rows : CooperativeSize)
-    (role : CooperativeRole) (place : CooperativeData) (handle : ℕ) →
-    made_text f table (matrix_callee f columns rows role place) handle ≡
-    joined_texts (matrix_callee_text f columns rows role place)
-    (joined_texts (codes "(") (operands_text f table handle))
-unfolding made_text matrix_callee_text operands_text joined_texts
-matrix_row f table columns rows role place handle =
-    call_row_text (matrix_callee f columns rows role place)
-    (arguments_of (value_forms (form_at f table) (operands_at f handle)))
-
 module _ (f : FunctionText) (columns rows : CooperativeSize) (role : CooperativeRole)
     (place : CooperativeData) (s : Scalar)
     (known : scalar_pointed (context f) place.pointer ≡ Some s)
     (formed :
-    has_type_form f.shader.now.types (Value (inner.CooperativeMatrix columns rows s role)) ≡ true)
+    has_type_form f.known.shader.now.types (Value (inner.CooperativeMatrix columns rows s role)) ≡ true)
   where
     abbrev it : TypeInner
     it = inner.CooperativeMatrix columns rows s role
@@ -90,7 +78,7 @@ module _ (f : FunctionText) (columns rows : CooperativeSize) (role : Cooperative
     tree = (tree_there (type_names_of f) (Value it) formed).0
 
     -- what is called, by the tree of the type
-    callee_is : matrix_callee f columns rows role place ≡ load_tree place.row_major tree
+    callee_is : typed_callee f (CooperativeLoad columns rows role place) ≡ load_tree place.row_major tree
     callee_is =
         ap (λ o. unwrap_or o (NamedType []))
         (matrix_is (context f) (type_names_of f) columns rows role place s _ known
@@ -103,8 +91,8 @@ module _ (f : FunctionText) (columns rows : CooperativeSize) (role : Cooperative
         (tree_there (type_names_of f) (Value it) formed).1
 
     pub matrix_callee_row : (word : List ℕ) → word ≡ load_word place.row_major →
-        taking_text f word (Value it) ≡ matrix_callee_text f columns rows role place
-    unfolding taking_text matrix_callee_text
+        taking_text f word (Value it) ≡ callee_text f (CooperativeLoad columns rows role place)
+    unfolding taking_text callee_text
     matrix_callee_row word is =
         (λ i. is i ++ (codes "<" ++ (resolution_is i ++ codes ">")))
         ∙ (by place.row_major ∙ sym (ap printed_type callee_is))
@@ -126,12 +114,13 @@ pub own_matrix_load : (f : FunctionText) (table : List Availability) {handle : �
     {e : ir.Expression}
     {columns rows : CooperativeSize} {role : CooperativeRole} {place : CooperativeData} →
     CanWrite f → IsInText f handle →
-    expression_has_own_form f.shader.now f.info.now (CooperativeLoad columns rows role place) ≡ true →
+    expression_has_own_form f.known.shader.now f.info.now (CooperativeLoad columns rows role place) ≡ true →
     slice_get (expressions f) handle ≡ Some e → e ≡ CooperativeLoad columns rows role place →
-    made_text f table (matrix_callee f columns rows role place) handle ≡ own_text f table handle
+    made_text f table (typed_callee f (CooperativeLoad columns rows role place)) handle ≡
+    own_text f table handle
 own_matrix_load f table {handle} {e} {columns} {rows} {role} {place} can within may here is =
     let c =
-    loaded_matrix f.shader.now f.module_info.now f.info.now columns rows role place may in
+    loaded_matrix f.known.shader.now f.known.info.now f.info.now columns rows role place may in
     let called =
     matrix_is (context f) (type_names_of f) columns rows role place c.scalar c.tree c.known c.is in
     let op = load_called (context f) columns rows role place in

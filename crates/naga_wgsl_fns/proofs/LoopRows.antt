@@ -1,4 +1,5 @@
 -- The texts of loops, from what is written of them in turn, and what a loop's body leaves.
+-- Serves 6 contracts, `write_break_if` among them.
 use Rattle.std.proofs.Common.{cond, ◌≡◌, ℕ, ◌*◌, suc, Bool, true, false, List, [], ◌++◌, codes}
 use Rattle.std.proofs.Common.{replicate, Option, Some, None, refl, sym, ap, ◌∙◌, append_assoc}
 use Rattle.std.specs.Option.{option_map}

@@ -1,4 +1,6 @@
 -- The program in which a function stands that is written by itself.
+-- Serves `answers_tell_of_items`, `answers_tell_of_those_before`, `write_by_plan` and
+-- `write_function`.
 --
 -- Throughout, ps are entry points from the number g on, ess says what is known of each, i is the index
 -- of one among them, and named tells the names of the labels that front ends gave.

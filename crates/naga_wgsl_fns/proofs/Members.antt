@@ -1,4 +1,5 @@
 -- Parts of structs, which are members by their names, and parts of what is no struct.
+-- Serves 45 contracts, `component` among them.
 use Rattle.std.proofs.Common.{◌≡◌, ℕ, Bool, true, false, Option, Some, None, refl, sym, ap, ◌∙◌}
 use Rattle.std.proofs.Common.{slice_get}
 use Rattle.std.specs.Prelude.{if◌then◌else◌}

@@ -1,4 +1,5 @@
 -- The names of bound expressions, from what is written of them in turn.
+-- Serves `write_numbered_name`.
 use Rattle.std.proofs.Common.{◌≡◌, ℕ, ◌<◌, ◌^◌, codes, decimal, ap}
 use Rattle.std.proofs.lemmas.Bool.{lt-ltb}
 use Rattle.module_semantics.specs.Names.{numbered_name, numbered_text}

@@ -1,4 +1,5 @@
 -- A part at an index, by what it is taken of and by what stands after that.
+-- Serves 30 contracts, `write_address` among them.
 use Rattle.std.proofs.Common.{◌≡◌, ℕ, Bool, true, false, ◌++◌, List, [], ◌∷◌, Option, Some, None}
 use Rattle.std.proofs.Common.{refl, sym, ap, ◌∙◌, subst}
 use Rattle.std.specs.Prelude.{if◌then◌else◌, slice_get}
@@ -58,11 +59,11 @@ module _ (f : FunctionText) (table : List Availability) (can : CanWrite f) where
   }
 
   selected_form : (base index : ℕ) →
-      expression_has_own_form f.shader.now f.info.now (expression.AccessIndex base index) ≡ true →
+      expression_has_own_form f.known.shader.now f.info.now (expression.AccessIndex base index) ≡ true →
       PartForm f table (Some (expression.AccessIndex base index)) base
   unfolding selector_text
   selected_form base index may =
-      let x = selected f.shader.now f.module_info.now f.info.now base index may in
+      let x = selected f.known.shader.now f.known.info.now f.info.now base index may in
       record {
         part = selected_part x.0;
         is = ap

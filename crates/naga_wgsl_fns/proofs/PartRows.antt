@@ -1,4 +1,5 @@
 -- The texts of parts: what they are taken of, and what is chosen.
+-- Serves 13 contracts, `write_in_parentheses` among them.
 use Rattle.std.proofs.Common.{◌≡◌, ℕ, zero, suc, Bool, true, false, List, [], ◌∷◌, ◌++◌, length}
 use Rattle.std.proofs.Common.{Option, Some, None, codes, refl, sym, ap, ◌∙◌, get_or, map}
 use Rattle.std.proofs.lemmas.List.{append-nil}
@@ -168,13 +169,13 @@ selector_row f base index letter is = sym (ap (λ o. option_map_or selector_end 
 
 -- a member by its name
 pub named_member_row : (f : FunctionText) (h index : ℕ) → named_member_text f h index ≡
-    joined_texts (codes ".") (name_in (module_names f.shader.now) (key.StructMember h index))
+    joined_texts (codes ".") (name_in (module_names f.known.shader.now) (key.StructMember h index))
 unfolding named_member_text word_text joined_texts
 named_member_row f h index = refl
 
 pub member_selector_row : (f : FunctionText) (base index h : ℕ) →
     part_selector (source f).declared base index ≡
-    Some (MemberNamed (name_in (module_names f.shader.now) (key.StructMember h index))) →
+    Some (MemberNamed (name_in (module_names f.known.shader.now) (key.StructMember h index))) →
     named_member_text f h index ≡ selector_text f base index
 unfolding named_member_text selector_text
 member_selector_row f base index h is = sym (ap (λ o. option_map_or selector_end o []) is)
@@ -443,7 +444,7 @@ signed_row f table handle can within =
       where
         of_expression : (e : ir.Expression) → slice_get (expressions f) handle ≡ Some e →
             is_signed (as_value (own_plain (naming f) (source f) operand e)) ≡ is_prefix (Some e)
-        of_expression (expression.Constant c) at = constant_unsigned f.shader.now (type_names_of f) c
+        of_expression (expression.Constant c) at = constant_unsigned f.known.shader.now (type_names_of f) c
         of_expression (expression.ZeroValue ty) at =
             called_unsigned _ (constructor_called (context f) (Handle ty) 0)
             (type_tree (source f).type_names ty) []
@@ -459,7 +460,8 @@ signed_row f table handle can within =
         of_expression (expression.AccessIndex base index) at =
             parted (Some (expression.AccessIndex base index)) at base refl
         of_expression (expression.GlobalVariable v) at =
-            (variable_unsigned (is_handle_variable f.shader.now v) (global_name (module_names f.shader.now) v)).0
+            (variable_unsigned (is_handle_variable f.known.shader.now v)
+            (global_name (module_names f.known.shader.now) v)).0
         of_expression (expression.Load pointer) at =
             loaded pointer (is_atomic_pointer (context f) pointer)
         of_expression (expression.ImageQuery image query) at =

@@ -1,4 +1,5 @@
 -- What has been passed after statements: none, some and others, and some at a level of their own.
+-- Serves `statement`, `write_case`, `write_else` and `write_plain_continuing`.
 use Rattle.std.proofs.Common.{◌≡◌, ℕ, ◌+◌, true, refl, ap, ◌∙◌, arith, length}
 use Rattle.naga_ir.specs.StatementTree.{BlockTree, no_statements, statement, has_no_statements}
 use Rattle.naga_scope.specs.Availabilities.{TextPoint}

@@ -1,4 +1,5 @@
 -- What a plan of a function says, and what is told of one that has none.
+-- Serves `plan_of`, `plan_or_refusal`, `write_by_plan` and `write_function`.
 use Rattle.naga_scope.specs.declared.plan.PlanError.TheVariants.{StatementWithoutForm}
 use Rattle.naga_scope.specs.declared.plan.PlanError.TheVariants.{LetWithoutForm, OutOfScope}
 use Rattle.naga_scope.specs.declared.plan.PlanError.TheVariants.{TypeWithoutForm, Unnamed}

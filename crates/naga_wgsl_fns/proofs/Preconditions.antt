@@ -1,4 +1,5 @@
 -- What the parts of a function want, from what the function wants.
+-- Serves 45 contracts, `component` among them.
 use Rattle.std.proofs.Common.{Vec, Global, ◌≡◌, ℕ, ◌+◌, Bool, ◌<◌, true, false, List, [], ◌++◌}
 use Rattle.std.proofs.Common.{codes, length, Option, Some, None, refl, sym, ap, subst, ◌∙◌, IsTrue}
 use Rattle.std.proofs.Common.{arith, max, ◌∷◌}
@@ -174,10 +175,10 @@ all_in_text t h (x ∷ xs) all = (all.0.1, all_in_text t h xs all.1)
 module _ (t : FunctionText) (can : CanWrite t) where
   -- its module, its handle, the function, and what is known of its expressions
   abbrev m : Module
-  m = t.shader.now
+  m = t.known.shader.now
 
   abbrev info : ModuleInfo
-  info = t.module_info.now
+  info = t.known.info.now
 
   abbrev g : ℕ
   g = number t
@@ -239,21 +240,21 @@ module _ (t : FunctionText) (can : CanWrite t) where
   -- ---- what is known of an expression
   -- the type that a `let` tells has a form
   pub annotated_is_formed : (h : ℕ) (k : ExpressionInfo) → slice_get es h ≡ Some k →
-      annotates_types t.flags ≡ true → IsLet t h →
+      annotates_types t.known.flags ≡ true → IsLet t h →
       names_undeclared m k.ty ≡ false → IsTrue (has_type_form m.types k.ty)
   annotated_is_formed h k at tells named declared =
       type_form_of_spellable m k.ty (can.formed.types k.ty (OfLet h k tells named at declared))
 
   pub known_resolution_fits : (h : ℕ) (k : ExpressionInfo) → slice_get es h ≡ Some k →
       IsTrue (resolution_fits (length m.overrides) (length m.types) k.ty)
-  known_resolution_fits h k at = known_is_fit m info can.accepted g es can.infos h k at
+  known_resolution_fits h k at = known_is_fit m info can.known.accepted g es can.infos h k at
 
   pub known_in_range : (h : ℕ) (k : ExpressionInfo) → slice_get es h ≡ Some k → InRange k.ty m.types
   known_in_range h k at = fits_in_range (length m.overrides) m.types k.ty (known_resolution_fits h k at)
 
   pub type_known_is : (h : ℕ) (k : ExpressionInfo) → slice_get es h ≡ Some k →
       type_known (context t) h ≡ inner_of k.ty m.types
-  type_known_is h k at = known_type_is m t.module_info.now es h k at
+  type_known_is h k at = known_type_is m t.known.info.now es h k at
 
   -- what is pointed at is a type of the module
   pub pointee_within : (h : ℕ) (it : TypeInner) (base : ℕ) (at : AddressSpace) → h < length es →
@@ -261,7 +262,7 @@ module _ (t : FunctionText) (can : CanWrite t) where
   pointee_within h it base at lt known is =
       let k = element es h lt in
       let inside = sym (type_known_is h k.0 k.1) ∙ (known ∙ ap Some is) in
-      let ends = known_before m info can.accepted k.0.ty (known_resolution_fits h k.0 k.1)
+      let ends = known_before m info can.known.accepted k.0.ty (known_resolution_fits h k.0 k.1)
       (inner.Pointer base at) inside in
       omega (arith, ends)
 
@@ -282,7 +283,7 @@ module _ (t : FunctionText) (can : CanWrite t) where
   pub member_there : (base index h : ℕ) →
       expression_has_own_form m es (expression.AccessIndex base index) ≡ true →
       struct_known t base ≡ Some h →
-      names_in t.names.now (key.StructMember h index) ≡
+      names_in t.known.names.now (key.StructMember h index) ≡
       Some (name_in (module_names m) (key.StructMember h index))
   member_there base index h may found =
       let whole = then_some (struct_at m.types) (whole_known m.types es base) h found in
@@ -297,9 +298,9 @@ module _ (t : FunctionText) (can : CanWrite t) where
       ∙ (sym (ap (λ o. option_map_or (part_has_form_at m index) o true) whole.1) ∙ written)) in
       let a = element (members_of s.type.inner) index (ltb-true index _ lt) in
       subst
-      (λ k. names_in t.names.now (key.StructMember k index) ≡
+      (λ k. names_in t.known.names.now (key.StructMember k index) ≡
       Some (name_in (module_names m) (key.StructMember k index)))
-      s.same (can.named.members whole.0 s.type s.there index a.0 a.1)
+      s.same (can.known.named.members whole.0 s.type s.there index a.0 a.1)
     where
       by : (it : TypeInner) → is_struct it ≡ true → (k : ℕ) →
           (not (is_struct it) || member_has_form m k (members_of it) index) ≡ true →
@@ -332,7 +333,7 @@ module _ (t : FunctionText) (can : CanWrite t) where
       sym (ap (option_and_then (struct_at m.types)) (whole_is m info es base b)) ∙ no_member in
       let itself =
       no_struct m b.known.ty b.type
-      (known_fits m info can.accepted g es can.infos base b.known b.there) b.is none in
+      (known_fits m info can.known.accepted g es can.infos base b.known b.there) b.is none in
       let known = type_known_is base b.known b.there ∙ b.is in
       selector_is m info es base index b
       ∙ (by b.type b.known.ty itself b.passes none
@@ -388,7 +389,7 @@ module _ (t : FunctionText) (can : CanWrite t) where
       (λ e. if names_undeclared m e.ty then None else resolution_tree (type_names m) e.ty) o
 
   -- the type that a `let` tells, where it tells one
-  pub annotated_row : (h : ℕ) (k : ExpressionInfo) → slice_get es h ≡ Some k → annotates_types t.flags ≡ true →
+  pub annotated_row : (h : ℕ) (k : ExpressionInfo) → slice_get es h ≡ Some k → annotates_types t.known.flags ≡ true →
       names_undeclared m k.ty ≡ false → IsTrue (has_type_form m.types k.ty) →
       annotation_text t k.ty ≡ let_annotation_text t h
   unfolding annotation_text resolution_text let_annotation_text
@@ -405,7 +406,7 @@ module _ (t : FunctionText) (can : CanWrite t) where
   pub undeclared_row : (h : ℕ) (k : ExpressionInfo) → slice_get es h ≡ Some k →
       names_undeclared m k.ty ≡ true → let_annotation_text t h ≡ []
   unfolding let_annotation_text
-  undeclared_row h k at named = by (annotates_types t.flags)
+  undeclared_row h k at named = by (annotates_types t.known.flags)
     where
       by : (b : Bool) → annotation_if (annotated_type b m (type_names m) es h) ≡ []
       by true =
@@ -414,7 +415,7 @@ module _ (t : FunctionText) (can : CanWrite t) where
           ∙ ap (λ b. if b then None else resolution_tree (type_names m) k.ty) named)
       by false = refl
 
-  pub unannotated_row : (h : ℕ) → annotates_types t.flags ≡ false → let_annotation_text t h ≡ []
+  pub unannotated_row : (h : ℕ) → annotates_types t.known.flags ≡ false → let_annotation_text t h ≡ []
   unfolding let_annotation_text
   unannotated_row h is = ap (λ b. annotation_if (annotated_type b m (type_names m) es h)) is
 
@@ -474,10 +475,10 @@ module _ (t : FunctionText) (can : CanWrite t) where
   operands_in {h} {e} {own} here is within =
       subst (λ e. AllByRecursion (IsOperand t h) (expression_operands e)) is
       (both (expression_operands e) (all_before h e here)
-      ((written_are_closed m t.module_info.now f es).operands h e here within.written))
+      ((written_are_closed m t.known.info.now f es).operands h e here within.written))
     where
       both : (xs : List ℕ) → AllBelow h xs →
-          AllByRecursion (IsWrittenIn m t.module_info.now f es) xs →
+          AllByRecursion (IsWrittenIn m t.known.info.now f es) xs →
           AllByRecursion (IsOperand t h) xs
       both [] below written = tt
       both (x ∷ xs) below written =
@@ -571,14 +572,14 @@ module _ (t : FunctionText) (can : CanWrite t) where
 
   -- ---- names of handles
   pub named_after_one : (h k : ℕ) → named_after (naming t).function h k ≡ k + length (option_to_list (label_of f h))
-  named_after_one h k = named_one m t.module_info.now f es h k
+  named_after_one h k = named_one m t.known.info.now f es h k
 
   -- what a `let` names a handle after so many given names
   pub next_row : (k h : ℕ) → bound_text t h (next_name (is_some (label_of f h)) k) ≡ next_name_text t k h
   unfolding bound_text next_name_text
   next_row k h =
       by (is_some (label_of f h))
-      ∙ sym (ap (λ b. cond b (named_in t k) (numbered_name h)) (named_is m t.module_info.now f es h))
+      ∙ sym (ap (λ b. cond b (named_in t k) (numbered_name h)) (named_is m t.known.info.now f es h))
     where
       by : (b : Bool) → name_of_bound (named_in t) (numbered_name h) (next_name b k)
           ≡ cond b (named_in t k) (numbered_name h)

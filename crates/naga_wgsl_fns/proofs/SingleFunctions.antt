@@ -1,4 +1,5 @@
 -- A function that is written by itself.
+-- Serves `write_by_plan` and `write_function`.
 use Rattle.std.proofs.Common.{◌≡◌, ◌+◌, ◌<◌, ◌^◌, ◌∙◌, ◌++◌, ℕ, Bool, List, [], Some}
 use Rattle.std.proofs.Common.{append-nil, ap, append_assoc, arith, drop, inl, inr, length, refl}
 use Rattle.std.proofs.Common.{slice_get, subst, sym, codes, take, unwrap_or, ◌∷◌}

@@ -1,4 +1,6 @@
 -- What it tells of a type that its text was written where what has no form is refused.
+-- Serves `answers_tell_of_items`, `answers_tell_of_those_before`, `write_by_plan` and
+-- `write_function`.
 --
 -- Throughout, ps are the parts of a spelling (qs are others), n are the names of structs and
 -- overrides, knows says which overrides are known, f gives the parts of the type at a handle, h is

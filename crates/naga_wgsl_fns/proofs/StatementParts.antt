@@ -1,4 +1,5 @@
 -- What a statement wants of its function, its parts want too.
+-- Serves 7 contracts, `write_if` among them.
 use Rattle.std.specs.List.{AllByRecursion}
 use Rattle.std.specs.Prelude.{cond, ◌&&◌, ◌||◌, nat_lt, not}
 use Rattle.naga_scope.specs.Continues.{before_continue, from_continue, holds_continue}

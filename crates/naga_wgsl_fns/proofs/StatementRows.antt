@@ -1,4 +1,5 @@
 -- The texts of statements, from what is written of them in turn.
+-- Serves 32 contracts, `write_lines` among them.
 use Rattle.module_semantics.specs.Written.{statement_handles}
 use Rattle.naga_scope.specs.Changes.{statement_changes}
 use Rattle.naga_ir.specs.StatementTree.{call, SimpleStatement, BlockTree, StatementTree, emit}

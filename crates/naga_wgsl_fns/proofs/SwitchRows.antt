@@ -1,4 +1,5 @@
 -- The texts of switches, from what is written of them in turn.
+-- Serves 7 contracts, `is_default_alone` among them.
 use Rattle.std.proofs.Common.{◌==◌, ne_eqb, ◌-◌, zero, arith, ◌≡◌, ℕ, ℤ, pos, negsuc, ◌*◌, ◌+◌, ◌<◌}
 use Rattle.std.proofs.Common.{◌≤◌, suc, Bool, true, false, List, [], ◌∷◌, ◌++◌, codes, decimal}
 use Rattle.std.proofs.Common.{replicate, refl, sym, ap, ◌∙◌, append_assoc, drop, take, length}

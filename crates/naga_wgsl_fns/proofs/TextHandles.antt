@@ -1,4 +1,5 @@
 -- The handles that a function's statements and locals write by themselves are in its text.
+-- Serves `write_act_line`, `write_emit`, `write_local` and `write_statements`.
 use Rattle.naga_form.proofs.statements.WrittenHandles.{all_among, written_are_closed}
 use Rattle.module_semantics.specs.Written.{block_lets, simple_lets, IsWrittenIn, block_handles}
 use Rattle.module_semantics.specs.Written.{cases_handles, simple_handles, statement_handles}
@@ -139,7 +140,7 @@ module _ (binds : ℕ → Bool) (callees count : ℕ) where
 -- ---- what is in the text
 module _ (t : FunctionText) (can : CanWrite t) where
   in_text : (hs : List ℕ) → AllWithin (length t.function.now.expressions) hs →
-      AllByRecursion (IsWrittenIn t.shader.now t.module_info.now t.function.now t.info.now) hs →
+      AllByRecursion (IsWrittenIn t.known.shader.now t.known.info.now t.function.now t.info.now) hs →
       AreInText t hs
   in_text [] there written = tt
   in_text (h ∷ hs) there written =
@@ -148,16 +149,16 @@ module _ (t : FunctionText) (can : CanWrite t) where
   pub body_in_text : AreInText t (block_handles (bound t) t.function.now.body)
   body_in_text =
       let f = t.function.now in
-      let closed = written_are_closed t.shader.now t.module_info.now f t.info.now in
+      let closed = written_are_closed t.known.shader.now t.known.info.now f t.info.now in
       in_text (block_handles (bound t) f.body)
       (block_within (bound t) (callees t) (length f.expressions) f.body
-      (ranges_are t.shader.now (callees t) f can.ranges).1)
+      (ranges_are t.known.shader.now (callees t) f can.ranges).1)
       closed.body
 
   pub first_in_range : (l : ℕ) (v : LocalVariable) →
       slice_get t.function.now.local_variables l ≡ Some v → AreInText t (option_to_list v.init)
   first_in_range l v at =
-      let closed = written_are_closed t.shader.now t.module_info.now t.function.now t.info.now in
+      let closed = written_are_closed t.known.shader.now t.known.info.now t.function.now t.info.now in
       in_text (option_to_list v.init) (within v.init (first_within t can l v at)) (closed.firsts l v at)
     where
       within : (o : Option ℕ) → IsTrue (is_below (length t.function.now.expressions) o) →
@@ -183,7 +184,7 @@ outcome_inside t _ h w is = absurd cc
 -- ---- the body
 pub body_of : (t : FunctionText) → CanWrite t → CanWriteBlock t t.function.now.body
 body_of t can = record {
-  in_range = (ranges_are t.shader.now (callees t) t.function.now can.ranges).1;
+  in_range = (ranges_are t.known.shader.now (callees t) t.function.now can.ranges).1;
   formed = can.formed.statements;
   written = body_in_text t can;
   lets = all_among (block_lets (bound t) t.function.now.body) (λ h among. among);

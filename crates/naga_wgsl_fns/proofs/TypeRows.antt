@@ -1,4 +1,5 @@
 -- What is said of a type's spelling in a function, for types that have a form.
+-- Serves `write_annotation`, `write_type` and `write_type_of`.
 use Rattle.std.proofs.Common.{◌≡◌, ℕ, codes, Some}
 use Rattle.std.proofs.Common.{refl, length}
 use Rattle.std.specs.Prelude.{IsTrue}
@@ -23,14 +24,15 @@ pub annotation_row : (f : FunctionText) (ty : TypeResolution) → annotation_tex
 unfolding annotation_text joined_texts
 annotation_row f ty = refl
 
-pub type_same : (f : FunctionText) (ty : ℕ) → spelled_text f.shader.now ty ≡ type_text f ty
+pub type_same : (f : FunctionText) (ty : ℕ) → spelled_text f.known.shader.now ty ≡ type_text f ty
 unfolding spelled_text type_text
 type_same f ty = refl
 
 pub resolution_known : (f : FunctionText) (can : CanWrite f) (r : TypeResolution) →
-    IsTrue (has_type_form f.shader.now.types r) →
-    IsTrue (resolution_fits (length f.shader.now.overrides) (length f.shader.now.types) r) →
-    known_text (resolution_segments (names_context f.shader.now.types (names_in f.names.now)) r) ≡
+    IsTrue (has_type_form f.known.shader.now.types r) →
+    IsTrue (resolution_fits (length f.known.shader.now.overrides) (length f.known.shader.now.types) r) →
+    known_text (resolution_segments (names_context f.known.shader.now.types (names_in f.known.names.now)) r) ≡
     Some (resolution_text f r)
 unfolding resolution_text
-resolution_known f can = resolution_spelled f.shader.now (can_of f can) (names_in f.names.now) can.named
+resolution_known f can =
+    resolution_spelled f.known.shader.now (can_of f can) (names_in f.known.names.now) can.known.named

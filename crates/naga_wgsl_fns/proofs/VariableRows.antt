@@ -1,4 +1,5 @@
 -- The texts of variables of the module, as values and as references.
+-- Serves 32 contracts, `write_global_address` among them.
 use Rattle.std.proofs.Common.{◌≡◌, ℕ, true, false, List, codes, sym, ap, ◌∙◌}
 use Rattle.std.specs.Prelude.{if◌then◌else◌}
 use Rattle.naga_form.specs.Expressions.{is_handle_variable}
@@ -22,27 +23,27 @@ global_address_row f variable =
 
 -- one that is held is a value, and any other a reference
 pub handle_variable_value : (f : FunctionText) (variable : ℕ) →
-    is_handle_variable f.shader.now variable ≡ true →
+    is_handle_variable f.known.shader.now variable ≡ true →
     name_of_global f variable ≡ global_value_text f variable
 unfolding global_value_text
 handle_variable_value f variable is =
     sym (ap (λ b. if b then name_of_global f variable else global_address_text f variable) is)
 
 pub memory_variable_value : (f : FunctionText) (variable : ℕ) →
-    is_handle_variable f.shader.now variable ≡ false →
+    is_handle_variable f.known.shader.now variable ≡ false →
     global_address_text f variable ≡ global_value_text f variable
 unfolding global_value_text
 memory_variable_value f variable is =
     sym (ap (λ b. if b then name_of_global f variable else global_address_text f variable) is)
 
 module _ (f : FunctionText) (table : List Availability) (handle variable : ℕ) where
-  pub handle_variable_reference : is_handle_variable f.shader.now variable ≡ true →
+  pub handle_variable_reference : is_handle_variable f.known.shader.now variable ≡ true →
       pointed_text f table handle ≡ global_reference_text f table handle variable
   unfolding global_reference_text
   handle_variable_reference is =
       sym (ap (λ b. if b then pointed_text f table handle else name_of_global f variable) is)
 
-  pub memory_variable_reference : is_handle_variable f.shader.now variable ≡ false →
+  pub memory_variable_reference : is_handle_variable f.known.shader.now variable ≡ false →
       name_of_global f variable ≡ global_reference_text f table handle variable
   unfolding global_reference_text
   memory_variable_reference is =

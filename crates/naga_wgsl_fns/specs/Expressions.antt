@@ -7,9 +7,6 @@ use Rattle.naga_form.specs.Expressions.{ValueForm, ReferenceForm, is_handle_vari
 use Rattle.module_semantics.specs.ExpressionOperators.{is_atomic_pointer, type_known}
 use Rattle.module_semantics.specs.ExpressionOperators.{type_with}
 use Rattle.module_semantics.specs.OperatorTable.{AtomicLoad, run_word}
-use Rattle.naga_ir.specs.declared.expression.CooperativeData.{CooperativeData}
-use Rattle.naga_ir.specs.declared.types.CooperativeRole.{CooperativeRole}
-use Rattle.naga_ir.specs.declared.types.CooperativeSize.{CooperativeSize}
 use Rattle.module_semantics.specs.ExpressionShapes.{part_selector}
 use Rattle.naga_ir.specs.declared.operators.BinaryOperator.{BinaryOperator}
 use Rattle.naga_ir.specs.declared.types.Type_.{Type_}
@@ -37,7 +34,6 @@ use Rattle.wgsl_text.specs.Types.{Named, TypeSpecifier}
 use Rattle.wgsl_text.specs.Reading.{printed_type}
 use Rattle.naga_form.specs.Expressions.{operator_type}
 use Rattle.naga_info.specs.declared.info.TypeResolution.{TypeResolution}
-use Rattle.naga_ir.specs.declared.types.ScalarKind.{ScalarKind}
 use Rattle.naga_wgsl_fns.specs.Types.{resolution_text}
 use Rattle.naga_form.specs.Expressions.{PlainForm, as_value, as_reference, value_forms}
 use Rattle.naga_form.specs.Expressions.{plain_form, unnamed_form}
@@ -81,18 +77,18 @@ address_text f local = printed_expression (AddressOf (Name ((naming f).names.loc
 -- a pointer to a variable of the module
 unfoldable pub global_address_text : FunctionText → (variable : ℕ) → List ℕ
 global_address_text f variable =
-    printed_expression (AddressOf (Name (global_name (module_names f.shader.now) variable)))
+    printed_expression (AddressOf (Name (global_name (module_names f.known.shader.now) variable)))
 
 -- such a variable as a value, and as a reference where its handle has no name
 unfoldable pub global_value_text : FunctionText → (variable : ℕ) → List ℕ
 global_value_text f variable =
-    if is_handle_variable f.shader.now variable then name_of_global f variable
+    if is_handle_variable f.known.shader.now variable then name_of_global f variable
     else global_address_text f variable
 
 unfoldable pub global_reference_text : FunctionText → (table : List Availability) →
     (handle variable : ℕ) → List ℕ
 global_reference_text f table handle variable =
-    if is_handle_variable f.shader.now variable then pointed_text f table handle
+    if is_handle_variable f.known.shader.now variable then pointed_text f table handle
     else name_of_global f variable
 
 -- the operands of the expression with this handle
@@ -150,17 +146,14 @@ load_text f table pointer =
 abbrev pub is_atomic_at : List Type_ → (ty : ℕ) → Bool
 is_atomic_at types ty = option_map_or is_atomic (type_with types ty) false
 
--- what the load of a cooperative matrix is called by: its word with the matrix's type
-abbrev pub matrix_callee : FunctionText → (columns rows : CooperativeSize) → CooperativeRole →
-    CooperativeData → TypeSpecifier
-matrix_callee f columns rows role place =
-    unwrap_or
-    (operator_type (context f) (type_names_of f)
-    (expression.CooperativeLoad columns rows role place)) (Named [])
+-- what an expression is called by whose operator has a type: a conversion by the type of its
+-- value, or `bitcast` to that, and the load of a cooperative matrix by its word with the matrix's
+-- type
+abbrev pub typed_callee : FunctionText → ir.Expression → TypeSpecifier
+typed_callee f e = unwrap_or (operator_type (context f) (type_names_of f) e) (Named [])
 
-unfoldable pub matrix_callee_text : FunctionText → (columns rows : CooperativeSize) →
-    CooperativeRole → CooperativeData → List ℕ
-matrix_callee_text f columns rows role place = printed_type (matrix_callee f columns rows role place)
+unfoldable pub callee_text : FunctionText → ir.Expression → List ℕ
+callee_text f e = printed_type (typed_callee f e)
 
 -- the word that loads a matrix, and a word that takes a type with that
 abbrev pub load_word : (row_major : Bool) → List ℕ
@@ -169,17 +162,6 @@ load_word true = codes "coopLoadT"
 
 unfoldable pub taking_text : FunctionText → (word : List ℕ) → TypeResolution → List ℕ
 taking_text f word ty = word ++ (codes "<" ++ (resolution_text f ty ++ codes ">"))
-
--- what a conversion is called by: the type of its value, or `bitcast` to that
-abbrev pub conversion_callee : FunctionText → (operand : ℕ) → ScalarKind → (convert : Option ℕ) →
-    TypeSpecifier
-conversion_callee f operand kind convert =
-    unwrap_or
-    (operator_type (context f) (type_names_of f) (expression.As operand kind convert)) (Named [])
-
-unfoldable pub callee_text : FunctionText → (operand : ℕ) → ScalarKind → (convert : Option ℕ) →
-    List ℕ
-callee_text f operand kind convert = printed_type (conversion_callee f operand kind convert)
 
 unfoldable pub bitcast_text : FunctionText → TypeResolution → List ℕ
 bitcast_text f ty = codes "bitcast<" ++ (resolution_text f ty ++ codes ">")
@@ -231,7 +213,7 @@ is_of_components types it = is_vector it
 -- the expression with this handle has such a type
 abbrev pub has_components : FunctionText → ℕ → Bool
 has_components f handle =
-    option_map_or (is_of_components f.shader.now.types) (type_known (context f) handle) false
+    option_map_or (is_of_components f.known.shader.now.types) (type_known (context f) handle) false
 
 -- an index, in brackets
 unfoldable pub index_text : FunctionText → (table : List Availability) → (index : ℕ) → List ℕ
@@ -260,13 +242,13 @@ struct_at types h =
 -- the struct of which a part of the expression with this handle is taken, if it is one
 abbrev pub struct_known : FunctionText → (base : ℕ) → Option ℕ
 struct_known f base =
-    option_and_then (struct_at f.shader.now.types)
-    (whole_known f.shader.now.types f.info.now base)
+    option_and_then (struct_at f.known.shader.now.types)
+    (whole_known f.known.shader.now.types f.info.now base)
 
 -- its member with this number, by the name
 unfoldable pub named_member_text : FunctionText → (h index : ℕ) → List ℕ
 named_member_text f h index =
-    word_text (name_in (module_names f.shader.now) (key.StructMember h index))
+    word_text (name_in (module_names f.known.shader.now) (key.StructMember h index))
 
 -- a component by its letter, where it has one, else the part with this number
 abbrev pub selector_of : (letter : Option (List ℕ)) → (index : ℕ) → Selector

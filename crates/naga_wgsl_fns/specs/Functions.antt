@@ -25,11 +25,14 @@ use Rattle.naga_scope.specs.Availabilities.{TextPoint}
 use Rattle.naga_scope.specs.Changes.{block_changes}
 use Rattle.naga_scope.specs.declared.points.Availability.{Availability}
 use Rattle.wgsl_text.specs.Text.{text}
+use Rattle.naga_back.specs.declared.context.FunctionType.{FunctionType}
 use Rattle.naga_back.specs.declared.flags.WriterFlags.{WriterFlags}
 use Rattle.naga_wgsl_fns.specs.declared.functions.FunctionText.{FunctionText}
 use Rattle.naga_wgsl_fns.specs.FunctionText.{named_in, handles_in, source, naming}
 use Rattle.naga_wgsl_fns.specs.FunctionText.{number, type_names_of}
 use Rattle.naga_wgsl_fns.specs.BodyStates.{HasScope}
+use Rattle.naga_scope.specs.KnownModules.{number_in}
+use Rattle.naga_scope.specs.declared.known_module.KnownModule.{KnownModule}
 use Rattle.module_semantics.specs.FunctionNumbers.{all_functions, all_infos}
 use Rattle.naga_wgsl_shared.specs.Attributes.{attributes_text}
 use Rattle.naga_wgsl_fns.specs.Names.{name_of_function}
@@ -66,6 +69,11 @@ text_under m info flags named number =
     option_map_or (λ f. text_of m info flags named number f (known_of info number))
     (slice_get (all_functions m) number) []
 
+-- that of a function that is planned so
+abbrev pub planned_text : KnownModule → FunctionType → Planned → List ℕ
+planned_text k ty plan =
+    text_under k.shader.now k.info.now k.flags (names_of plan) (number_in k ty)
+
 -- and in a text of the whole module
 abbrev pub text_of_function : Module → ModuleInfo → WriterFlags → (number : ℕ) → List ℕ
 text_of_function m info flags number = text_under m info flags (expression_name m number) number
@@ -73,9 +81,9 @@ text_of_function m info flags number = text_under m info flags (expression_name 
 -- the form of a function
 abbrev pub form_of : FunctionText → Function
 form_of f =
-    let m = f.shader.now in
-    let info = f.module_info.now in
-    function_form f.flags (module_names m) (named_in f) m info (number f)
+    let m = f.known.shader.now in
+    let info = f.known.info.now in
+    function_form f.known.flags (module_names m) (named_in f) m info (number f)
     f.function.now
     f.info.now
 
@@ -84,7 +92,7 @@ function_text f = text (function_pieces (form_of f))
 
 -- with its stage
 unfoldable pub item_text : FunctionText → List ℕ
-item_text f = stage_before f.shader.now (number f) ++ function_text f
+item_text f = stage_before f.known.shader.now (number f) ++ function_text f
 
 -- ---- the head
 unfoldable pub arguments_text : FunctionText → List ℕ
@@ -102,7 +110,7 @@ head_text f =
 -- the argument with this number
 unfoldable pub argument_text : FunctionText → (n : ℕ) → FunctionArgument → List ℕ
 argument_text f n argument =
-    let m = f.shader.now in
+    let m = f.known.shader.now in
     text (parameter_pieces (parameter_form (module_names m) m (number f) n argument))
 
 -- what stands before it

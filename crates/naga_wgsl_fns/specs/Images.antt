@@ -39,13 +39,17 @@ component_text false (Some component.Z) = codes "2, "
 component_text false (Some component.W) = codes "3, "
 component_text _ _ = []
 
--- what stands in front of the operands
-unfoldable pub head_text : FunctionText → (image : ℕ) → (gather : Option SwizzleComponent) →
+-- what stands in front of the operands, with this word
+unfoldable pub head_text : FunctionText → (word : List ℕ) → (image : ℕ) →
+    (gather : Option SwizzleComponent) → List ℕ
+head_text f word image gather = word ++ (codes "(" ++ component_text (depths_at f image) gather)
+
+-- the word
+abbrev pub sampled_word : FunctionText → (image : ℕ) → (gather : Option SwizzleComponent) →
     SampleLevel → (compares clamped : Bool) → List ℕ
-head_text f image gather level compares clamped =
-    let of_depths = depths_at f image in
-    sampling_word (image_sample_operator of_depths gather (level_of level) compares clamped false false)
-    ++ (codes "(" ++ component_text of_depths gather)
+sampled_word f image gather level compares clamped =
+    sampling_word
+    (image_sample_operator (depths_at f image) gather (level_of level) compares clamped false false)
 
 -- operands after others
 unfoldable pub furthers_text : FunctionText → (table : List Availability) → List ℕ → List ℕ

@@ -10,11 +10,12 @@ use Rattle.naga_wgsl_fns.specs.declared.functions.FunctionText.{FunctionText}
 
 -- the function itself
 unfoldable pub name_of_function : FunctionText → List ℕ
-name_of_function f = function_name f.shader.now (module_names f.shader.now) (number f)
+name_of_function f = function_name f.known.shader.now (module_names f.known.shader.now) (number f)
 
 -- its argument with this number
 unfoldable pub name_of_argument : FunctionText → (n : ℕ) → List ℕ
-name_of_argument f n = argument_name f.shader.now (module_names f.shader.now) (number f) n
+name_of_argument f n =
+    argument_name f.known.shader.now (module_names f.known.shader.now) (number f) n
 
 -- an expression that a `let` binds under this name
 unfoldable pub bound_text : FunctionText → (handle : ℕ) → BoundName → List ℕ
@@ -27,8 +28,9 @@ next_name_text f given handle = bound_name (naming f) given handle
 
 -- its local with this handle
 unfoldable pub name_of_local : FunctionText → (local : ℕ) → List ℕ
-name_of_local f local = local_name f.shader.now (module_names f.shader.now) (number f) local
+name_of_local f local =
+    local_name f.known.shader.now (module_names f.known.shader.now) (number f) local
 
 -- a variable of the module
 unfoldable pub name_of_global : FunctionText → (variable : ℕ) → List ℕ
-name_of_global f variable = global_name (module_names f.shader.now) variable
+name_of_global f variable = global_name (module_names f.known.shader.now) variable

@@ -19,23 +19,24 @@ impl FunctionText<'_> {
         out: &mut Output<'_, W>,
     )
         requires can { CanWrite self.now }
-        requires has_form { IsTrue (constant_has_form self.now.shader.now constant) }
+        requires has_form { IsTrue (constant_has_form self.now.known.shader.now constant) }
         ensures { Writes W.text W.failures out.old out.new
-            (constant_text self.now.shader.now constant) }
+            (constant_text self.now.known.shader.now constant) }
     {
-        self.of_module().write_constant(self.alloc, constant, out);
+        self.of_module()
+            .write_constant(self.known.alloc, constant, out);
     }
 
     /// The function's module, the names of its items, and what is looked up of it.
     pub(crate) fn of_module(&self) -> ModuleText<'_>
-        ensures shader { result.shader.now ≡ self.now.shader.now }
-        ensures tables { result.tables.now ≡ self.now.tables.now }
-        ensures names { result.names.now ≡ self.now.names.now }
+        ensures shader { result.shader.now ≡ self.now.known.shader.now }
+        ensures tables { result.tables.now ≡ self.now.known.tables.now }
+        ensures names { result.names.now ≡ self.now.known.names.now }
     {
         ModuleText {
-            shader: self.shader,
-            tables: self.tables,
-            names: self.names,
+            shader: self.known.shader,
+            tables: self.known.tables,
+            names: self.known.names,
         }
     }
 }

@@ -8,45 +8,19 @@ ghost use Rattle.module_semantics.specs.ExpressionForms.{expression_has_own_form
 ghost use Rattle.module_semantics.specs.acceptance.Ranges.{resolution_fits};
 ghost use Rattle.naga_ir.specs.declared.expression.Expression.TheVariants.{As};
 ghost use Rattle.naga_wgsl_fns.specs.Expressions.{bitcast_text, callee_text, cast_text};
-ghost use Rattle.naga_wgsl_fns.specs.Expressions.{conversion_callee, made_text};
-ghost use Rattle.naga_wgsl_fns.specs.FunctionText.{CanWrite, IsInText};
+ghost use Rattle.naga_wgsl_fns.specs.FunctionText.{CanWrite};
 ghost use Rattle.naga_words.specs.Output.{Writes};
 
 use crate::functions::FunctionText;
 use module_semantics::type_parts::converted_scalar;
 use naga_info::TypeResolution;
 use naga_ir::{Expression, Handle, ScalarKind, TypeInner};
-use naga_scope::Scope;
 use naga_words::{Output, TextSink};
 
 impl FunctionText<'_> {
-    /// The operand of the expression with this handle, as a value over another scalar.
-    #[cycle(expression)]
-    pub(crate) fn write_conversion<W: TextSink>(
-        &self,
-        scope: &Scope,
-        handle: Handle<Expression>,
-        operand: Handle<Expression>,
-        kind: ScalarKind,
-        convert: Option<u8>,
-        out: &mut Output<'_, W>,
-    )
-        requires can { CanWrite self.now }
-        requires handle { IsInText self.now handle }
-        requires formed { IsTrue (expression_has_own_form self.now.shader.now self.now.info.now
-            (As operand kind convert)) }
-        ensures { Writes W.text W.failures out.old out.new
-            (made_text self.now scope.now.table (conversion_callee self.now operand kind convert)
-            handle) }
-    {
-        self.write_callee(operand, kind, convert, out);
-        out.put("(");
-        self.write_operands(scope, handle, out);
-    }
-
     /// What a conversion is called by: the type of its value, or `bitcast` to that where the bits
     /// are kept.
-    fn write_callee<W: TextSink>(
+    pub(crate) fn write_cast_callee<W: TextSink>(
         &self,
         operand: Handle<Expression>,
         kind: ScalarKind,
@@ -54,10 +28,11 @@ impl FunctionText<'_> {
         out: &mut Output<'_, W>,
     )
         requires can { CanWrite self.now }
-        requires formed { IsTrue (expression_has_own_form self.now.shader.now self.now.info.now
+        requires formed { IsTrue
+            (expression_has_own_form self.now.known.shader.now self.now.info.now
             (As operand kind convert)) }
         ensures { Writes W.text W.failures out.old out.new
-            (callee_text self.now operand kind convert) }
+            (callee_text self.now (As operand kind convert)) }
     {
         let inner = self.type_of(operand);
         let target = TypeResolution::Value(conversion_target(inner, kind, convert));
@@ -73,9 +48,9 @@ impl FunctionText<'_> {
         out: &mut Output<'_, W>,
     )
         requires can { CanWrite self.now }
-        requires formed { IsTrue (has_type_form self.now.shader.now.types target.now) }
-        requires fits { IsTrue (resolution_fits (length self.now.shader.now.overrides)
-            (length self.now.shader.now.types) target.now) }
+        requires formed { IsTrue (has_type_form self.now.known.shader.now.types target.now) }
+        requires fits { IsTrue (resolution_fits (length self.now.known.shader.now.overrides)
+            (length self.now.known.shader.now.types) target.now) }
         ensures { Writes W.text W.failures out.old out.new
             (cast_text self.now keeps_bits target.now) }
     {
@@ -89,9 +64,9 @@ impl FunctionText<'_> {
     #[tactic(auto, using(naga_words::proofs::Writing::writes_then, crate::proofs::ConversionRows::bitcast_row))]
     fn write_bitcast<W: TextSink>(&self, target: &TypeResolution, out: &mut Output<'_, W>)
         requires can { CanWrite self.now }
-        requires formed { IsTrue (has_type_form self.now.shader.now.types target.now) }
-        requires fits { IsTrue (resolution_fits (length self.now.shader.now.overrides)
-            (length self.now.shader.now.types) target.now) }
+        requires formed { IsTrue (has_type_form self.now.known.shader.now.types target.now) }
+        requires fits { IsTrue (resolution_fits (length self.now.known.shader.now.overrides)
+            (length self.now.known.shader.now.types) target.now) }
         ensures { Writes W.text W.failures out.old out.new (bitcast_text self.now target.now) }
     {
         out.put("bitcast<");

@@ -60,7 +60,7 @@ impl FunctionText<'_> {
         ensures { Writes W.text W.failures out.old out.new (own_text self.now scope.now.table handle) }
     {
         match &self.function.expressions[handle] {
-            Expression::Literal(literal) => write_literal(self.alloc, *literal, out),
+            Expression::Literal(literal) => write_literal(self.known.alloc, *literal, out),
             Expression::Constant(constant) => self.write_constant(*constant, out),
             Expression::Override(item) => self.of_module().write_override_name(*item, out),
             Expression::ZeroValue(ty) => self.write_made(scope, handle, *ty, out),
@@ -86,14 +86,22 @@ impl FunctionText<'_> {
                 expr,
                 kind,
                 convert,
-            } => self.write_conversion(scope, handle, *expr, *kind, *convert, out),
+            } => {
+                self.write_cast_callee(*expr, *kind, *convert, out);
+                out.put("(");
+                self.write_operands(scope, handle, out);
+            }
             Expression::ImageSample { .. } => self.write_sampling(scope, handle, out),
             Expression::CooperativeLoad {
                 columns,
                 rows,
                 role,
                 data_,
-            } => self.write_matrix_load(scope, handle, *columns, *rows, *role, *data_, out),
+            } => {
+                self.write_matrix_callee(*columns, *rows, *role, *data_, out);
+                out.put("(");
+                self.write_operands(scope, handle, out);
+            }
             // Without a word, it is the result of a statement where its name is not in scope. The
             // rules of scope keep that from being written.
             expression => match called_str(expression) {
@@ -232,7 +240,8 @@ impl FunctionText<'_> {
     )
         requires can { CanWrite self.now }
         requires handle { IsInText self.now handle }
-        requires formed { IsTrue (has_type_form self.now.shader.now.types (resolution.Handle ty)) }
+        requires formed { IsTrue
+            (has_type_form self.now.known.shader.now.types (resolution.Handle ty)) }
         ensures { Writes W.text W.failures out.old out.new
             (made_text self.now scope.now.table (made_type self.now ty) handle) }
     {

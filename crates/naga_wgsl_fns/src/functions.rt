@@ -2,21 +2,16 @@
 
 ghost use Rattle.std.specs.Prelude.{◌≡◌, ◌<◌, ◌++◌, IfErr, IsTrue, OnErr, OnOk, Some, length};
 ghost use Rattle.std.specs.Prelude.{slice_get, true};
-ghost use Rattle.module_semantics.specs.acceptance.Accepted.{is_accepted};
 ghost use Rattle.module_semantics.specs.AlikeTypes.{has_type_form};
 ghost use Rattle.naga_info.specs.declared.info.TypeResolution.TheVariants as resolution;
 ghost use Rattle.module_semantics.specs.DeclarationForms.{HeadHasForm, binding_has_form};
-ghost use Rattle.module_semantics.specs.FunctionNumbers.{IsFunctionOf, function_number};
-ghost use Rattle.module_semantics.specs.Names.{HasNamesOf};
-ghost use Rattle.naga_naming.specs.Keys.{names_in};
+ghost use Rattle.module_semantics.specs.FunctionNumbers.{IsFunctionOf};
 ghost use Rattle.naga_scope.specs.Changes.{block_changes};
-ghost use Rattle.naga_scope.specs.Plans.{IsPlanOf};
-ghost use Rattle.naga_tables.specs.Tables.{AreTablesOf};
 ghost use Rattle.naga_words.specs.Output.{Writes};
 ghost use Rattle.naga_spelling.specs.Sink.{IsAfter};
 ghost use Rattle.naga_refusals.specs.Errors.{IsWant};
 ghost use Rattle.naga_wgsl_fns.specs.FunctionText.{CanWrite};
-ghost use Rattle.naga_back.specs.Flags.{annotates_types};
+ghost use Rattle.naga_scope.specs.KnownModules.{IsKnownModule, IsPlanIn, number_in};
 ghost use Rattle.naga_wgsl_fns.specs.FunctionText.{AreInText, IsInText};
 ghost use Rattle.naga_wgsl_fns.specs.FunctionText.{number};
 ghost use Rattle.naga_wgsl_fns.specs.BodyStates.{HasScope, text_at};
@@ -27,80 +22,58 @@ ghost use Rattle.naga_wgsl_fns.specs.Functions.{arguments_text, body_text, first
 ghost use Rattle.naga_wgsl_fns.specs.Functions.{first_value_text, function_text, group_end_text};
 ghost use Rattle.naga_wgsl_fns.specs.Functions.{head_text, item_text, local_text, locals_text};
 ghost use Rattle.naga_wgsl_fns.specs.Functions.{next_argument_text, result_text, stage_before};
-ghost use Rattle.naga_wgsl_fns.specs.Functions.{names_of, text_under};
+ghost use Rattle.naga_wgsl_fns.specs.Functions.{planned_text};
 
 use crate::indent::Indent;
 use crate::lines::BodyState;
-use naga_back::{FunctionType, WriterFlags};
-use naga_info::{FunctionInfo, ModuleInfo};
+use naga_back::FunctionType;
+use naga_info::FunctionInfo;
 use naga_ir::{
     Expression, Function, FunctionArgument, FunctionResult, Handle, ItemIndex, LocalVariable,
-    Module,
 };
-use naga_naming::NameKey;
 use naga_refusals::error::error_of_want;
-use naga_scope::{Plan, Scope, function_of};
-use naga_tables::ModuleTables;
+use naga_scope::{KnownModule, Plan, Scope, function_of};
 use naga_wgsl_shared::Error;
 use naga_wgsl_shared::bindings::write_optional_binding;
 use naga_words::{Output, TextSink};
-use std::alloc::Global;
-use std::collections::HashMap;
 
 /// Writes the declaration of a function, with the line end after its last line: the function, its
-/// arguments and its locals under their names in `names`, which has them all, and what front ends
-/// named under the names that the plan has. In front of an entry point stands its stage.
+/// arguments and its locals under their names in the module, and what front ends named under the
+/// names that the plan has. In front of an entry point stands its stage.
 ///
-/// The module is accepted with what is known of it, `tables` has what is looked up of it, and what the
-/// function takes and gives and its stage have forms. The plan is that of the function, for `let`s
-/// that state types where the flags ask for it.
+/// What the function takes and gives and its stage have forms. The plan is that of the function.
 ///
 /// Where the call gives up, because the sink failed or for want of memory, a beginning of the text
 /// stands after what the sink held. Memory is taken where the sink takes it, for the blanks of a
 /// level deeper than any before, and where a type is spelled.
 #[tactic(auto, using(naga_words::proofs::Writing::fresh_output))]
-pub fn write_planned<'a, W: TextSink>(
-    alloc: Global,
-    module: &'a Module,
-    info: &'a ModuleInfo,
-    tables: &'a ModuleTables,
-    names: &'a HashMap<NameKey, String>,
-    flags: WriterFlags,
+pub fn write_planned<W: TextSink>(
+    known: &KnownModule<'_>,
     ty: &FunctionType,
     plan: Plan,
     out: &mut W,
 ) -> Result<(), Error>
-    requires accepted { IsTrue (is_accepted «module».now info.now) }
-    requires there { IsFunctionOf ty.now «module».now }
-    requires head { HeadHasForm «module».now (function_number «module».now ty.now) }
-    requires tables { AreTablesOf «module».now tables.now }
-    requires names { HasNamesOf «module».now (names_in names.now) }
-    requires planned { IsPlanOf (annotates_types flags) «module».now info.now
-        (function_number «module».now ty.now) plan }
+    requires known { IsKnownModule known.now }
+    requires there { IsFunctionOf ty.now known.now.shader.now }
+    requires head { HeadHasForm known.now.shader.now (number_in known.now ty.now) }
+    requires planned { IsPlanIn known.now ty.now plan }
     ensures text_ok { OnOk result (W.text out.new ≡ W.text out.old
-        ++ text_under «module».now info.now flags (names_of plan)
-        (function_number «module».now ty.now)) }
-    ensures text_err { OnErr result (IsAfter (W.text out.old)
-        (text_under «module».now info.now flags (names_of plan) (function_number «module».now ty.now))
+        ++ planned_text known.now ty.now plan) }
+    ensures text_err { OnErr result (IsAfter (W.text out.old) (planned_text known.now ty.now plan)
         (W.text out.new)) }
     ensures failures_ok { OnOk result (W.failures out.new ≡ W.failures out.old) }
     ensures reason { IfErr result (IsWant (W.failures out.old) (W.failures out.new)) }
 {
-    let (function, function_info) = function_of(module, info, *ty);
+    let (function, info) = function_of(known.shader, known.info, *ty);
     let (scope, named) = plan.into_parts();
     let text = FunctionText {
-        alloc,
-        shader: module,
-        module_info: info,
-        tables,
-        names,
+        known: *known,
         named: named.as_slice(),
-        flags,
         ty: *ty,
         function,
-        info: function_info,
+        info,
     };
-    let indent = Indent::new(alloc);
+    let indent = Indent::new(known.alloc);
     let mut at = BodyState { scope, indent };
     let mut written = Output::new(out);
     text.write_item(&mut at, &mut written);
@@ -113,15 +86,10 @@ pub fn write_planned<'a, W: TextSink>(
 /// What the text of a function is made from.
 #[derive(Clone, Copy)]
 pub(crate) struct FunctionText<'a> {
-    /// Where memory for the blanks of a level and for the spelling of a type comes from.
-    pub(crate) alloc: Global,
-    pub(crate) shader: &'a Module,
-    pub(crate) module_info: &'a ModuleInfo,
-    pub(crate) tables: &'a ModuleTables,
-    pub(crate) names: &'a HashMap<NameKey, String>,
+    /// Its module.
+    pub(crate) known: KnownModule<'a>,
     /// The names that front ends gave, in the order of the text.
     pub(crate) named: &'a [String],
-    pub(crate) flags: WriterFlags,
     /// Which of the module's functions it is.
     pub(crate) ty: FunctionType,
     pub(crate) function: &'a Function,
@@ -147,12 +115,12 @@ impl FunctionText<'_> {
     fn write_own_stage<W: TextSink>(&self, out: &mut Output<'_, W>)
         requires { CanWrite self.now }
         ensures { Writes W.text W.failures out.old out.new
-            (stage_before self.now.shader.now (number self.now)) }
+            (stage_before self.now.known.shader.now (number self.now)) }
     {
         match self.ty {
             FunctionType::Function(_) => {}
             FunctionType::EntryPoint(index) => {
-                let point = &self.shader.entry_points[index as usize];
+                let point = &self.known.shader.entry_points[index as usize];
                 self.of_module().write_stage(point, out);
             }
         }
@@ -250,7 +218,7 @@ impl FunctionText<'_> {
         requires can { CanWrite self.now }
         requires passing { IsTrue (option_map_or binding_has_form answer.now.binding true) }
         requires formed { IsTrue
-            (has_type_form self.now.shader.now.types (resolution.Handle answer.now.ty)) }
+            (has_type_form self.now.known.shader.now.types (resolution.Handle answer.now.ty)) }
         ensures { Writes W.text W.failures out.old out.new (answer_text self.now answer.now) }
     {
         out.put(" -> ");

@@ -51,7 +51,8 @@ impl FunctionText<'_> {
             } => {
                 let compares = depth_ref.is_some();
                 let by_name = is_zero_by_name(*gather, compares, *clamp_to_edge);
-                self.write_sampling_head(*image, *gather, *level, compares, *clamp_to_edge, out);
+                let word = sampling_str(*gather, *level, compares, *clamp_to_edge);
+                self.write_sampling_head(word, *image, *gather, out);
                 self.write_value(scope, *image, out);
                 self.write_next_operand(scope, false, *sampler, out);
                 self.write_next_operand(scope, false, *coordinate, out);
@@ -69,20 +70,17 @@ impl FunctionText<'_> {
     /// The word of a sampling and `(`, and after that the component of a gather.
     fn write_sampling_head<W: TextSink>(
         &self,
+        word: &str,
         image: Handle<Expression>,
         gather: Option<SwizzleComponent>,
-        level: SampleLevel,
-        compares: bool,
-        clamped: bool,
         out: &mut Output<'_, W>,
     )
         requires can { CanWrite self.now }
         requires image { IsInText self.now image }
-        requires has_form { IsTrue (sampling_has_form gather level compares clamped) }
         ensures { Writes W.text W.failures out.old out.new
-            (head_text self.now image gather level compares clamped) }
+            (head_text self.now word.now image gather) }
     {
-        out.put(sampling_str(gather, level, compares, clamped));
+        out.put(word);
         out.put("(");
         out.put(component_str(self.has_depths(image), gather));
     }
@@ -106,7 +104,7 @@ impl FunctionText<'_> {
         requires image { IsInText self.now image }
         ensures { result ≡ zero_is_whole (source self.now) image }
     {
-        is_portable(self.flags) && self.has_depths(image)
+        is_portable(self.known.flags) && self.has_depths(image)
     }
 
     /// A further operand, if there is one.
@@ -157,7 +155,7 @@ impl FunctionText<'_> {
         ensures { Writes W.text W.failures out.old out.new (offset_text self.now offset) }
     {
         if let Some(offset) = offset {
-            self.write_next_operand(&Scope::without_names(self.alloc), false, offset, out);
+            self.write_next_operand(&Scope::without_names(self.known.alloc), false, offset, out);
         }
     }
 }

@@ -3,13 +3,14 @@
 ghost use Rattle.std.specs.Prelude.{◌≡◌, ℕ, List, IsTrue};
 ghost use Rattle.module_semantics.specs.acceptance.Accepted.{is_accepted};
 ghost use Rattle.module_semantics.specs.DeclarationForms.{HeadHasForm};
-ghost use Rattle.module_semantics.specs.FunctionNumbers.{IsFunctionOf, function_number};
+ghost use Rattle.module_semantics.specs.FunctionNumbers.{IsFunctionOf};
 ghost use Rattle.module_semantics.specs.Names.{HasNamesOf, wgsl_names};
 ghost use Rattle.naga_naming.specs.Keys.{names_in};
 ghost use Rattle.naga_naming.specs.Naming.{HasNamed};
 ghost use Rattle.naga_scope.specs.ExpressionNames.{HasOtherUses};
 ghost use Rattle.naga_wgsl_fns.specs.Items.{AnswersShowAllOfItems, AnswersShowFunctions};
 ghost use Rattle.naga_wgsl_fns.specs.Items.{AnswersShowItems, FunctionWriting, HasNamedItemsOf};
+ghost use Rattle.naga_scope.specs.KnownModules.{IsKnownModule, number_in};
 
 use crate::functions::write_planned;
 use crate::plans::plan_of;
@@ -19,6 +20,7 @@ use naga_ir::Module;
 use naga_names::namer::Namer;
 use naga_naming::NameKey;
 use naga_refusals::Error;
+use naga_scope::KnownModule;
 use naga_tables::{ModuleTables, unsupported_head};
 use naga_words::TextSink;
 use std::alloc::Global;
@@ -75,10 +77,19 @@ pub fn write_function<W: TextSink>(
     // So that the next function may be written.
     ensures named { HasNamedItemsOf «module».now namer.new }
 {
-    match unsupported_head(module, ty) {
-        Some(construct) => Err(construct.to_error(alloc)),
-        None => write_by_plan(alloc, module, info, &ty, names, namer, flags, out),
+    if let Some(construct) = unsupported_head(module, ty) {
+        return Err(construct.to_error(alloc));
     }
+    let tables = ModuleTables::of(alloc, module)?;
+    let known = KnownModule {
+        alloc,
+        shader: module,
+        info,
+        tables: &tables,
+        names,
+        flags,
+    };
+    write_by_plan(&known, &ty, namer, out)
 }
 
 /// Where the functions before one were written by themselves, what its meaning asks of them holds.
@@ -97,26 +108,21 @@ pub fn answers_tell_of_items()
 
 /// Writes a function of which what it takes and gives and its stage have forms.
 fn write_by_plan<W: TextSink>(
-    alloc: Global,
-    module: &Module,
-    info: &ModuleInfo,
+    known: &KnownModule<'_>,
     ty: &FunctionType,
-    names: &HashMap<NameKey, String>,
     namer: &mut Namer,
-    flags: WriterFlags,
     out: &mut W,
 ) -> Result<(), Error>
-    requires accepted { IsTrue (is_accepted «module».now info.now) }
-    requires there { IsFunctionOf ty.now «module».now }
-    requires head { HeadHasForm «module».now (function_number «module».now ty.now) }
-    requires names { HasNamesOf «module».now (names_in names.now) }
-    requires words { HasOtherUses (wgsl_names «module».now) namer.old }
+    requires known { IsKnownModule known.now }
+    requires there { IsFunctionOf ty.now known.now.shader.now }
+    requires head { HeadHasForm known.now.shader.now (number_in known.now ty.now) }
+    requires words { HasOtherUses (wgsl_names known.now.shader.now) namer.old }
     ensures function { (earlier : List (List ℕ)) → HasNamed namer.old earlier →
-        FunctionWriting «module».now info.now flags earlier ty.now result namer.new
-        (W.text out.old) (W.text out.new) (W.failures out.old) (W.failures out.new) }
+        FunctionWriting known.now.shader.now known.now.info.now known.now.flags earlier ty.now
+        result namer.new (W.text out.old) (W.text out.new) (W.failures out.old)
+        (W.failures out.new) }
     ensures words { HasOtherUses namer.old namer.new }
 {
-    let tables = ModuleTables::of(alloc, module)?;
-    let plan = plan_of(alloc, module, info, ty, &tables, names, flags, namer)?;
-    write_planned(alloc, module, info, &tables, names, flags, ty, plan, out)
+    let plan = plan_of(known, ty, namer)?;
+    write_planned(known, ty, plan, out)
 }

@@ -64,7 +64,7 @@ impl FunctionText<'_> {
     {
         for index in range.first..range.end {
             let handle = ItemIndex::from_index(index);
-            let is_bound = binds(&self.shader.types, self.function, self.info, handle);
+            let is_bound = binds(&self.known.shader.types, self.function, self.info, handle);
             self.write_emitted(is_bound, handle, at, out);
             at.scope.emit(is_bound, self.function, handle);
         }

@@ -8,8 +8,8 @@ ghost use Rattle.module_semantics.specs.ExpressionForms.{expression_has_own_form
 ghost use Rattle.module_semantics.specs.acceptance.Ranges.{resolution_fits};
 ghost use Rattle.naga_form.specs.Expressions.{scalar_pointed};
 ghost use Rattle.naga_ir.specs.declared.expression.Expression.TheVariants.{CooperativeLoad, Load};
-ghost use Rattle.naga_wgsl_fns.specs.Expressions.{is_atomic_at, load_text, load_word, made_text};
-ghost use Rattle.naga_wgsl_fns.specs.Expressions.{matrix_callee, matrix_callee_text, taking_text};
+ghost use Rattle.naga_wgsl_fns.specs.Expressions.{callee_text, is_atomic_at, load_text, load_word};
+ghost use Rattle.naga_wgsl_fns.specs.Expressions.{taking_text};
 ghost use Rattle.naga_wgsl_fns.specs.FunctionText.{CanWrite, IsInText, context};
 ghost use Rattle.naga_words.specs.Output.{Writes};
 
@@ -58,40 +58,14 @@ impl FunctionText<'_> {
     }
 
     fn is_atomic(&self, ty: Handle<Type_>) -> bool
-        requires { ty < length self.now.shader.now.types }
-        ensures { result ≡ is_atomic_at self.now.shader.now.types ty }
+        requires { ty < length self.now.known.shader.now.types }
+        ensures { result ≡ is_atomic_at self.now.known.shader.now.types ty }
     {
-        matches!(&self.shader.types[ty].inner, TypeInner::Atomic(_))
+        matches!(&self.known.shader.types[ty].inner, TypeInner::Atomic(_))
     }
 
-    /// A cooperative matrix from memory: the operands of the expression with this handle after the word
-    /// that loads a matrix of the type.
-    #[cycle(expression)]
-    pub(crate) fn write_matrix_load<W: TextSink>(
-        &self,
-        scope: &Scope,
-        handle: Handle<Expression>,
-        columns: CooperativeSize,
-        rows: CooperativeSize,
-        role: CooperativeRole,
-        memory: CooperativeData,
-        out: &mut Output<'_, W>,
-    )
-        requires can { CanWrite self.now }
-        requires handle { IsInText self.now handle }
-        requires formed { IsTrue (expression_has_own_form self.now.shader.now self.now.info.now
-            (CooperativeLoad columns rows role memory)) }
-        ensures { Writes W.text W.failures out.old out.new
-            (made_text self.now scope.now.table (matrix_callee self.now columns rows role memory)
-            handle) }
-    {
-        self.write_matrix_callee(columns, rows, role, memory, out);
-        out.put("(");
-        self.write_operands(scope, handle, out);
-    }
-
-    /// The word that loads a matrix, with the type of that.
-    fn write_matrix_callee<W: TextSink>(
+    /// The word that loads a cooperative matrix, with the type of that.
+    pub(crate) fn write_matrix_callee<W: TextSink>(
         &self,
         columns: CooperativeSize,
         rows: CooperativeSize,
@@ -100,10 +74,11 @@ impl FunctionText<'_> {
         out: &mut Output<'_, W>,
     )
         requires can { CanWrite self.now }
-        requires formed { IsTrue (expression_has_own_form self.now.shader.now self.now.info.now
+        requires formed { IsTrue
+            (expression_has_own_form self.now.known.shader.now self.now.info.now
             (CooperativeLoad columns rows role memory)) }
         ensures { Writes W.text W.failures out.old out.new
-            (matrix_callee_text self.now columns rows role memory) }
+            (callee_text self.now (CooperativeLoad columns rows role memory)) }
     {
         let scalar = self.pointed_scalar(memory.pointer);
         let matrix = TypeResolution::Value(TypeInner::CooperativeMatrix {
@@ -123,7 +98,7 @@ impl FunctionText<'_> {
         requires scalar { IsTrue (is_some (scalar_pointed (context self.now) pointer)) }
         ensures { scalar_pointed (context self.now) pointer ≡ Some result }
     {
-        match pointee_scalar(&self.shader.types, self.type_of(pointer)) {
+        match pointee_scalar(&self.known.shader.types, self.type_of(pointer)) {
             Some(scalar) => scalar,
             None => unreachable!(),
         }
@@ -133,9 +108,9 @@ impl FunctionText<'_> {
     #[tactic(auto, using(naga_words::proofs::Writing::writes_then, crate::proofs::LoadRows::taking_row))]
     fn write_taking<W: TextSink>(&self, word: &str, ty: &TypeResolution, out: &mut Output<'_, W>)
         requires can { CanWrite self.now }
-        requires formed { IsTrue (has_type_form self.now.shader.now.types ty.now) }
-        requires fits { IsTrue (resolution_fits (length self.now.shader.now.overrides)
-            (length self.now.shader.now.types) ty.now) }
+        requires formed { IsTrue (has_type_form self.now.known.shader.now.types ty.now) }
+        requires fits { IsTrue (resolution_fits (length self.now.known.shader.now.overrides)
+            (length self.now.known.shader.now.types) ty.now) }
         ensures { Writes W.text W.failures out.old out.new (taking_text self.now word.now ty.now) }
     {
         out.put(word);

@@ -62,7 +62,7 @@ impl FunctionText<'_> {
         out: &mut Output<'_, W>,
     )
         requires can { CanWrite self.now }
-        requires variable { variable < length self.now.shader.now.global_variables }
+        requires variable { variable < length self.now.known.shader.now.global_variables }
         ensures { Writes W.text W.failures out.old out.new (name_of_global self.now variable) }
     {
         self.write_name(&NameKey::GlobalVariable(variable), out);
@@ -76,10 +76,10 @@ impl FunctionText<'_> {
         index: u32,
         out: &mut Output<'_, W>,
     )
-        requires { names_in self.now.names.now (key.StructMember whole index)
-            ≡ Some (name_in (module_names self.now.shader.now) (key.StructMember whole index)) }
+        requires { names_in self.now.known.names.now (key.StructMember whole index) ≡ Some
+            (name_in (module_names self.now.known.shader.now) (key.StructMember whole index)) }
         ensures { Writes W.text W.failures out.old out.new
-            (name_in (module_names self.now.shader.now) (key.StructMember whole index)) }
+            (name_in (module_names self.now.known.shader.now) (key.StructMember whole index)) }
     {
         self.write_name(&NameKey::StructMember(whole, index), out);
     }
@@ -132,11 +132,12 @@ impl FunctionText<'_> {
     /// The name of a function of the module that this one calls.
     #[inline(never)]
     pub(crate) fn callee_str(&self, function: Handle<Function>) -> &str
-        requires { names_in self.now.names.now (key.Function function)
-            ≡ Some (name_in (module_names self.now.shader.now) (key.Function function)) }
-        ensures { result.now ≡ name_in (module_names self.now.shader.now) (key.Function function) }
+        requires { names_in self.now.known.names.now (key.Function function)
+            ≡ Some (name_in (module_names self.now.known.shader.now) (key.Function function)) }
+        ensures { result.now
+            ≡ name_in (module_names self.now.known.shader.now) (key.Function function) }
     {
-        match self.names.get(&NameKey::Function(function)) {
+        match self.known.names.get(&NameKey::Function(function)) {
             Some(name) => name.as_str(),
             None => unreachable!(),
         }
@@ -144,10 +145,10 @@ impl FunctionText<'_> {
 
     #[inline(always)]
     fn write_name<W: TextSink>(&self, key: &NameKey, out: &mut Output<'_, W>)
-        requires named { names_in self.now.names.now key.now
-            ≡ Some (name_in (module_names self.now.shader.now) key.now) }
+        requires named { names_in self.now.known.names.now key.now
+            ≡ Some (name_in (module_names self.now.known.shader.now) key.now) }
         ensures { Writes W.text W.failures out.old out.new
-            (name_in (module_names self.now.shader.now) key.now) }
+            (name_in (module_names self.now.known.shader.now) key.now) }
     {
         self.of_module().write_name(key, out);
     }

@@ -182,7 +182,8 @@ impl FunctionText<'_> {
         out: &mut Output<'_, W>,
     )
         requires can { CanWrite self.now }
-        requires has_form { IsTrue (expression_has_own_form self.now.shader.now self.now.info.now
+        requires has_form { IsTrue
+            (expression_has_own_form self.now.known.shader.now self.now.info.now
             (AccessIndex base index)) }
         ensures { Writes W.text W.failures out.old out.new (selector_text self.now base index) }
     {
@@ -200,8 +201,8 @@ impl FunctionText<'_> {
         index: u32,
         out: &mut Output<'_, W>,
     )
-        requires named { names_in self.now.names.now (key.StructMember whole index)
-            ≡ Some (name_in (module_names self.now.shader.now) (key.StructMember whole index)) }
+        requires named { names_in self.now.known.names.now (key.StructMember whole index) ≡ Some
+            (name_in (module_names self.now.known.shader.now) (key.StructMember whole index)) }
         ensures { Writes W.text W.failures out.old out.new (named_member_text self.now whole index) }
     {
         out.put(".");
@@ -216,7 +217,8 @@ impl FunctionText<'_> {
         out: &mut Output<'_, W>,
     )
         requires can { CanWrite self.now }
-        requires has_form { IsTrue (expression_has_own_form self.now.shader.now self.now.info.now
+        requires has_form { IsTrue
+            (expression_has_own_form self.now.known.shader.now self.now.info.now
             (AccessIndex base index)) }
         requires no_member { struct_known self.now base ≡ None }
         ensures { Writes W.text W.failures out.old out.new (selector_text self.now base index) }
@@ -233,8 +235,8 @@ impl FunctionText<'_> {
         requires can { CanWrite self.now }
         ensures { result ≡ struct_known self.now base }
     {
-        match whole_known(&self.shader.types, self.info, base) {
-            Some(whole) => struct_at(&self.shader.types, whole),
+        match whole_known(&self.known.shader.types, self.info, base) {
+            Some(whole) => struct_at(&self.known.shader.types, whole),
             None => None,
         }
     }
@@ -242,7 +244,8 @@ impl FunctionText<'_> {
     /// The letter of a component of a vector, or of one that is pointed at. Other parts have none.
     fn component(&self, base: Handle<Expression>, index: u32) -> Option<&'static str>
         requires can { CanWrite self.now }
-        requires has_form { IsTrue (expression_has_own_form self.now.shader.now self.now.info.now
+        requires has_form { IsTrue
+            (expression_has_own_form self.now.known.shader.now self.now.info.now
             (AccessIndex base index)) }
         requires no_member { struct_known self.now base ≡ None }
         ensures { part_selector (source self.now).declared base index
@@ -269,10 +272,10 @@ impl FunctionText<'_> {
     }
 
     fn is_vector(&self, ty: Handle<Type_>) -> bool
-        requires { ty < length self.now.shader.now.types }
-        ensures { result ≡ is_vector_at self.now.shader.now.types ty }
+        requires { ty < length self.now.known.shader.now.types }
+        ensures { result ≡ is_vector_at self.now.known.shader.now.types ty }
     {
-        matches!(&self.shader.types[ty].inner, TypeInner::Vector { .. })
+        matches!(&self.known.shader.types[ty].inner, TypeInner::Vector { .. })
     }
 
     /// Whether the type of an expression is that of a pointer.
@@ -293,7 +296,7 @@ impl FunctionText<'_> {
         requires handle { handle < length self.now.info.now }
         ensures { type_known (context self.now) handle ≡ Some result.now }
     {
-        self.info[handle].ty.inner_with(&self.shader.types)
+        self.info[handle].ty.inner_with(&self.known.shader.types)
     }
 
     /// The components of a vector that a swizzle chooses.

@@ -1,32 +1,28 @@
 //! The plan of a function, or why there is none.
 
-ghost use Rattle.std.specs.Prelude.{◌≡◌, [], ℕ, List, IfErr, IfOk, IsTrue, OnErr};
-ghost use Rattle.module_semantics.specs.acceptance.Accepted.{is_accepted};
-ghost use Rattle.module_semantics.specs.FunctionNumbers.{IsFunctionOf, function_number};
-ghost use Rattle.module_semantics.specs.Names.{HasNamesOf, labels_named_in, wgsl_names};
-ghost use Rattle.naga_back.specs.Flags.{annotates_types};
-ghost use Rattle.naga_naming.specs.Keys.{names_in};
+ghost use Rattle.std.specs.Prelude.{◌≡◌, [], ℕ, List, IfErr, IfOk, OnErr};
+ghost use Rattle.module_semantics.specs.FunctionNumbers.{IsFunctionOf};
+ghost use Rattle.module_semantics.specs.Names.{wgsl_names};
 ghost use Rattle.naga_naming.specs.Naming.{HasNamed};
 ghost use Rattle.naga_naming.specs.declared.error.NamerError.TheVariants as namer_error;
 ghost use Rattle.naga_scope.specs.ExpressionNames.{HasBegunLabels, HasOtherUses, NamesLabels};
-ghost use Rattle.naga_scope.specs.Plans.{IsPlanOf};
 ghost use Rattle.naga_tables.specs.Forms.{AreKnownIn};
-ghost use Rattle.naga_tables.specs.Tables.{AreTablesOf};
+ghost use Rattle.naga_scope.specs.KnownModules.{IsKnownModule, IsPlanIn, explicit_in};
+ghost use Rattle.naga_scope.specs.KnownModules.{labels_in, number_in};
 ghost use Rattle.naga_wgsl_fns.specs.PlanRefusals.{IsConstructOf, IsConstructOfNames, IsMemoryOf};
 ghost use Rattle.naga_wgsl_fns.specs.PlanRefusals.{IsOfPlan, IsPlanRefusal};
 ghost use Rattle.naga_wgsl_fns.specs.Unplanned.{IsToldOfUnplanned, IsUnplanned, TellsUnplanned};
 ghost use Rattle.naga_wgsl_fns.specs.Unplanned.{function_position};
 
-use naga_back::{FunctionType, WriterFlags, annotates_types};
-use naga_info::{FunctionInfo, ModuleInfo, TypeResolution};
-use naga_ir::{Function, Module};
+use naga_back::FunctionType;
+use naga_info::{FunctionInfo, TypeResolution};
+use naga_ir::Function;
 use naga_names::namer::Namer;
-use naga_naming::{NameKey, NamerError};
+use naga_naming::NamerError;
 use naga_refusals::{Construct, Error};
-use naga_scope::{FunctionRefusalPosition, Plan, PlanError, function_of};
-use naga_tables::{ModuleTables, refused_expression};
+use naga_scope::{FunctionRefusalPosition, KnownModule, Plan, PlanError, function_of};
+use naga_tables::refused_expression;
 use std::alloc::{AllocError, Global};
-use std::collections::HashMap;
 
 /// Why there is no plan of a function.
 #[derive(Debug, Drop)]
@@ -37,45 +33,32 @@ pub enum Unplanned {
     Memory(AllocError),
 }
 
-/// The plan of a function of an accepted module, by what is looked up of the module and the
-/// names of its items: the rules of scope hold in the function,
-/// each statement and each written expression has a form, each type that its text spells can be
-/// spelled, and the labels that front ends gave in it have names, which `namer` has given them in
-/// the order of the text. Its words and prefixes are those of WGSL.
+/// The plan of a function: the rules of scope hold in it, each statement and each written
+/// expression has a form, each type that its text spells can be spelled, and the labels that front
+/// ends gave in it have names, which `namer` has given them in the order of the text. Its words and
+/// prefixes are those of WGSL.
 ///
 /// Else what keeps the function from having one is told by name, and `namer` has named some first
 /// ones of its labels.
-pub fn plan_of<'a>(
-    alloc: Global,
-    module: &'a Module,
-    info: &'a ModuleInfo,
-    ty: &FunctionType,
-    tables: &'a ModuleTables,
-    names: &HashMap<NameKey, String>,
-    flags: WriterFlags,
-    namer: &mut Namer,
-) -> Result<Plan, Error>
-    requires accepted { IsTrue (is_accepted «module».now info.now) }
-    requires there { IsFunctionOf ty.now «module».now }
-    requires tables { AreTablesOf «module».now tables.now }
-    requires names { HasNamesOf «module».now (names_in names.now) }
-    requires words { HasOtherUses (wgsl_names «module».now) namer.old }
-    ensures ok { IfOk result (IsPlanOf (annotates_types flags) «module».now info.now
-        (function_number «module».now ty.now)) }
-    ensures named { IfOk result (λ p. NamesLabels namer.old []
-        (labels_named_in «module».now (function_number «module».now ty.now)) namer.new p.named) }
+pub fn plan_of(known: &KnownModule<'_>, ty: &FunctionType, namer: &mut Namer) -> Result<Plan, Error>
+    requires known { IsKnownModule known.now }
+    requires there { IsFunctionOf ty.now known.now.shader.now }
+    requires words { HasOtherUses (wgsl_names known.now.shader.now) namer.old }
+    ensures ok { IfOk result (IsPlanIn known.now ty.now) }
+    ensures named { IfOk result (λ p.
+        NamesLabels namer.old [] (labels_in known.now ty.now) namer.new p.named) }
     ensures err { IfErr result (λ e. (earlier : List (List ℕ)) → HasNamed namer.old earlier →
-        IsPlanRefusal (annotates_types flags) «module».now info.now earlier
-        (function_number «module».now ty.now) e) }
+        IsPlanRefusal (explicit_in known.now) known.now.shader.now known.now.info.now earlier
+        (number_in known.now ty.now) e) }
     // The construct that it names stands there, and is the first in the order of the text.
-    ensures told { IfErr result (IsToldOfUnplanned (annotates_types flags) «module».now info.now
-        (function_number «module».now ty.now) namer.old) }
-    ensures begun { OnErr result (HasBegunLabels namer.old
-        (labels_named_in «module».now (function_number «module».now ty.now)) namer.new) }
+    ensures told { IfErr result (IsToldOfUnplanned (explicit_in known.now) known.now.shader.now
+        known.now.info.now (number_in known.now ty.now) namer.old) }
+    ensures begun { OnErr result
+        (HasBegunLabels namer.old (labels_in known.now ty.now) namer.new) }
 {
-    match plan_or_refusal(alloc, module, info, ty, tables, names, flags, namer) {
+    match plan_or_refusal(known, ty, namer) {
         Ok(plan) => Ok(plan),
-        Err(unplanned) => Err(unplanned_error(alloc, unplanned)),
+        Err(unplanned) => Err(unplanned_error(known.alloc, unplanned)),
     }
 }
 
@@ -97,44 +80,27 @@ fn unplanned_error(alloc: Global, unplanned: Unplanned) -> Error
 ///
 /// Where memory runs out that is the answer, [`Unplanned::Memory`]. After either error `namer` has
 /// named some first ones of the function's labels.
-pub fn plan_or_refusal<'a>(
-    alloc: Global,
-    module: &'a Module,
-    info: &'a ModuleInfo,
+pub fn plan_or_refusal(
+    known: &KnownModule<'_>,
     ty: &FunctionType,
-    tables: &'a ModuleTables,
-    names: &HashMap<NameKey, String>,
-    flags: WriterFlags,
     namer: &mut Namer,
 ) -> Result<Plan, Unplanned>
-    requires accepted { IsTrue (is_accepted «module».now info.now) }
-    requires there { IsFunctionOf ty.now «module».now }
-    requires tables { AreTablesOf «module».now tables.now }
-    requires names { HasNamesOf «module».now (names_in names.now) }
-    ensures ok { IfOk result (IsPlanOf (annotates_types flags) «module».now info.now
-        (function_number «module».now ty.now)) }
-    ensures named { IfOk result (λ p. NamesLabels namer.old []
-        (labels_named_in «module».now (function_number «module».now ty.now)) namer.new p.named) }
-    ensures err { IfErr result (IsUnplanned (annotates_types flags) «module».now info.now
-        (function_number «module».now ty.now) namer.old) }
-    ensures begun { OnErr result (HasBegunLabels namer.old
-        (labels_named_in «module».now (function_number «module».now ty.now)) namer.new) }
+    requires known { IsKnownModule known.now }
+    requires there { IsFunctionOf ty.now known.now.shader.now }
+    ensures ok { IfOk result (IsPlanIn known.now ty.now) }
+    ensures named { IfOk result (λ p.
+        NamesLabels namer.old [] (labels_in known.now ty.now) namer.new p.named) }
+    ensures err { IfErr result (IsUnplanned (explicit_in known.now) known.now.shader.now
+        known.now.info.now (number_in known.now ty.now) namer.old) }
+    ensures begun { OnErr result
+        (HasBegunLabels namer.old (labels_in known.now ty.now) namer.new) }
 {
-    match Plan::of(
-        alloc,
-        module,
-        info,
-        *ty,
-        tables,
-        names,
-        annotates_types(flags),
-        namer,
-    ) {
+    match Plan::of(known, *ty, namer) {
         Ok(plan) => Ok(plan),
         Err(error) => {
             let part = function_position(&error);
-            let (function, function_info) = function_of(module, info, *ty);
-            match construct_of_plan(module, tables, names, function, function_info, error) {
+            let (function, info) = function_of(known.shader, known.info, *ty);
+            match construct_of_plan(known, function, info, error) {
                 Ok(construct) => Err(Unplanned::Refused(construct, part)),
                 Err(error) => Err(Unplanned::Memory(error)),
             }
@@ -158,18 +124,15 @@ fn function_position(error: &PlanError) -> FunctionRefusalPosition
 
 /// By what this function is refused that has no plan, or want of memory.
 fn construct_of_plan(
-    module: &Module,
-    tables: &ModuleTables,
-    names: &HashMap<NameKey, String>,
+    known: &KnownModule<'_>,
     function: &Function,
     info: &FunctionInfo,
     error: PlanError,
 ) -> Result<Construct, AllocError>
-    requires known { AreKnownIn «module».now.types info.now }
-    requires tables { AreTablesOf «module».now tables.now }
-    requires names { HasNamesOf «module».now (names_in names.now) }
-    requires unsupported { IsOfPlan «module».now function.now info.now error }
-    ensures ok { IfOk result (IsConstructOf «module».now function.now info.now error) }
+    requires known { IsKnownModule known.now }
+    requires types { AreKnownIn known.now.shader.now.types info.now }
+    requires unsupported { IsOfPlan known.now.shader.now function.now info.now error }
+    ensures ok { IfOk result (IsConstructOf known.now.shader.now function.now info.now error) }
     ensures err { IfErr result (IsMemoryOf error) }
 {
     match error {
@@ -177,12 +140,18 @@ fn construct_of_plan(
         PlanError::StatementWithoutForm(_, construct) => Ok(construct),
         PlanError::WithoutForm(_, handle) => {
             let expression = &function.expressions[handle];
-            Ok(refused_expression(module, tables, names, info, expression))
+            Ok(refused_expression(known.shader, known.tables, known.names, info, expression))
         }
         PlanError::TypeWithoutForm(_, ty) => {
-            Ok(tables.unspelled(module, &TypeResolution::Handle(ty)))
+            Ok(
+                known
+                    .tables
+                    .unspelled(known.shader, &TypeResolution::Handle(ty)),
+            )
         }
-        PlanError::LetWithoutForm(_, handle) => Ok(tables.unspelled(module, &info[handle].ty)),
+        PlanError::LetWithoutForm(_, handle) => {
+            Ok(known.tables.unspelled(known.shader, &info[handle].ty))
+        }
         PlanError::Unnamed(error) => construct_of_names(error),
         PlanError::Memory(error) => Err(error),
     }

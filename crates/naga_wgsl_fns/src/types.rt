@@ -21,19 +21,20 @@ impl FunctionText<'_> {
     /// The type with this handle.
     pub(crate) fn write_type<W: TextSink>(&self, ty: Handle<Type_>, out: &mut Output<'_, W>)
         requires can { CanWrite self.now }
-        requires formed { IsTrue (has_type_form self.now.shader.now.types (resolution.Handle ty)) }
+        requires formed { IsTrue
+            (has_type_form self.now.known.shader.now.types (resolution.Handle ty)) }
         ensures { Writes W.text W.failures out.old out.new (type_text self.now ty) }
     {
-        self.of_module().write_type(self.alloc, ty, out);
+        self.of_module().write_type(self.known.alloc, ty, out);
     }
 
     /// A colon, and the type of an expression.
     #[tactic(auto, using(naga_words::proofs::Writing::writes_then, crate::proofs::TypeRows::annotation_row))]
     fn write_annotation<W: TextSink>(&self, ty: &TypeResolution, out: &mut Output<'_, W>)
         requires can { CanWrite self.now }
-        requires formed { IsTrue (has_type_form self.now.shader.now.types ty.now) }
-        requires fits { IsTrue (resolution_fits (length self.now.shader.now.overrides)
-            (length self.now.shader.now.types) ty.now) }
+        requires formed { IsTrue (has_type_form self.now.known.shader.now.types ty.now) }
+        requires fits { IsTrue (resolution_fits (length self.now.known.shader.now.overrides)
+            (length self.now.known.shader.now.types) ty.now) }
         ensures { Writes W.text W.failures out.old out.new (annotation_text self.now ty.now) }
     {
         out.put(": ");
@@ -43,16 +44,16 @@ impl FunctionText<'_> {
     /// The type of an expression.
     pub(crate) fn write_type_of<W: TextSink>(&self, ty: &TypeResolution, out: &mut Output<'_, W>)
         requires can { CanWrite self.now }
-        requires formed { IsTrue (has_type_form self.now.shader.now.types ty.now) }
-        requires fits { IsTrue (resolution_fits (length self.now.shader.now.overrides)
-            (length self.now.shader.now.types) ty.now) }
+        requires formed { IsTrue (has_type_form self.now.known.shader.now.types ty.now) }
+        requires fits { IsTrue (resolution_fits (length self.now.known.shader.now.overrides)
+            (length self.now.known.shader.now.types) ty.now) }
         ensures { Writes W.text W.failures out.old out.new (resolution_text self.now ty.now) }
     {
         let context = WriterTypeContext {
-            module: self.shader,
-            names: self.names,
+            module: self.known.shader,
+            names: self.known.names,
         };
-        write_resolution_in(&context, self.alloc, ty, out);
+        write_resolution_in(&context, self.known.alloc, ty, out);
     }
 
     /// The same, where types are told.
@@ -60,11 +61,11 @@ impl FunctionText<'_> {
         requires can { CanWrite self.now }
         requires handle { handle < length self.now.function.now.expressions }
         requires named { IsLet self.now handle }
-        requires tells { IsTrue (annotates_types self.now.flags) }
+        requires tells { IsTrue (annotates_types self.now.known.flags) }
         ensures { Writes W.text W.failures out.old out.new (let_annotation_text self.now handle) }
     {
         let ty = &self.info[handle].ty;
-        if !self.tables.names_undeclared(self.shader, ty) {
+        if !self.known.tables.names_undeclared(self.known.shader, ty) {
             self.write_annotation(ty, out);
         }
     }
@@ -81,7 +82,7 @@ impl FunctionText<'_> {
         requires named { IsLet self.now handle }
         ensures { Writes W.text W.failures out.old out.new (let_annotation_text self.now handle) }
     {
-        if annotates_types(self.flags) {
+        if annotates_types(self.known.flags) {
             self.write_let_type(handle, out);
         }
     }

@@ -20,7 +20,7 @@ impl FunctionText<'_> {
         out: &mut Output<'_, W>,
     )
         requires can { CanWrite self.now }
-        requires variable { variable < length self.now.shader.now.global_variables }
+        requires variable { variable < length self.now.known.shader.now.global_variables }
         ensures { Writes W.text W.failures out.old out.new (global_value_text self.now variable) }
     {
         if self.is_handle_variable(variable) {
@@ -42,7 +42,7 @@ impl FunctionText<'_> {
     )
         requires can { CanWrite self.now }
         requires handle { IsInText self.now handle }
-        requires variable { variable < length self.now.shader.now.global_variables }
+        requires variable { variable < length self.now.known.shader.now.global_variables }
         ensures { Writes W.text W.failures out.old out.new
             (global_reference_text self.now scope.now.table handle variable) }
     {
@@ -61,7 +61,7 @@ impl FunctionText<'_> {
         out: &mut Output<'_, W>,
     )
         requires can { CanWrite self.now }
-        requires variable { variable < length self.now.shader.now.global_variables }
+        requires variable { variable < length self.now.known.shader.now.global_variables }
         ensures { Writes W.text W.failures out.old out.new (global_address_text self.now variable) }
     {
         out.put("(&");
@@ -71,11 +71,11 @@ impl FunctionText<'_> {
 
     /// Whether a variable of the module is in the handle space.
     fn is_handle_variable(&self, variable: Handle<GlobalVariable>) -> bool
-        requires { variable < length self.now.shader.now.global_variables }
-        ensures { result ≡ is_handle_variable self.now.shader.now variable }
+        requires { variable < length self.now.known.shader.now.global_variables }
+        ensures { result ≡ is_handle_variable self.now.known.shader.now variable }
     {
         matches!(
-            self.shader.global_variables[variable].space,
+            self.known.shader.global_variables[variable].space,
             AddressSpace::Handle
         )
     }

@@ -1,4 +1,5 @@
 -- Loops that write what stands in an arena, item by item.
+-- Serves 21 contracts, `write_constant` among them.
 --
 -- Throughout, one is the text of an item with its handle, items are those of the arena, and pairs the
 -- items that are left, with their handles.

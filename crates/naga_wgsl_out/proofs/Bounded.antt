@@ -1,4 +1,5 @@
 -- What the writer's answer says of a text that was cut, or was not.
+-- Serves `write_bounded` and `write_flat`.
 use Rattle.std.proofs.Common.{◌≡◌, ◌∙◌, ℕ, ◌<◌, ◌≤◌, List, [], ◌++◌, Err, None, Ok, Result, ap}
 use Rattle.std.proofs.Common.{arith, inl, inr, length, length-append, refl, string_bytes, subst, sym}
 use Rattle.std.specs.Prelude.{◌⊎◌, IsTrue, OnErr, OnOk, alloc_error}

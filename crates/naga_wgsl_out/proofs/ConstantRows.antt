@@ -1,4 +1,5 @@
 -- The texts of constants and of overrides, from what is written of them in turn.
+-- Serves 6 contracts, `write_constant` among them.
 --
 -- Throughout, m is a module, and h the handle of a constant c or of an override o of it.
 use Rattle.std.proofs.Common.{◌≡◌, ◌∙◌, ◌++◌, ℕ, Bool, true, false, List, [], ◌∷◌, append_assoc, ap}

@@ -1,4 +1,5 @@
 -- The text of enables, line by line.
+-- Serves `write`, `write_enables` and `write_line`.
 use Rattle.std.proofs.Common.{◌≡◌, ◌∙◌, ◌++◌, ℕ, Bool, true, false, List, [], ◌∷◌, ap, append_assoc}
 use Rattle.std.proofs.Common.{codes, cond, drop, map, refl, sym}
 use Rattle.std.proofs.Math.Bool.{or-false, or_assoc}

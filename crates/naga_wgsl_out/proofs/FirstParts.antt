@@ -1,4 +1,5 @@
 -- What stands at a part of a function keeps it from being written, and the first stands at one part.
+-- Serves `first_refusals_are_at_one_position` and `refusals_refuse`.
 use Rattle.std.proofs.Common.{◌≡◌, ◌<◌, ◌⊎◌, inl, inr, ℕ, Bool, true, false, List, Option, Some, None, ap, arith}
 use Rattle.std.proofs.Common.{nat_lt, refl, slice_get, subst, sym, ◌∙◌}
 use Rattle.std.proofs.lemmas.Bool.{false≢true, ltb-false, ltb-true}

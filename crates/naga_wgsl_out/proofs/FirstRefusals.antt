@@ -1,4 +1,5 @@
 -- What is a refusal isn't nothing, and the first stands at one position.
+-- Serves `first_refusals_are_at_one_position` and `refusals_refuse`.
 use Rattle.std.proofs.Common.{◌≡◌, ◌<◌, ◌+◌, ℕ, Bool, true, false, List, Option, Some, None, ap}
 use Rattle.std.proofs.Common.{arith, inl, inr, length, refl, slice_get, subst, sym, ◌∙◌}
 use Rattle.std.proofs.lemmas.Bool.{false≢true}

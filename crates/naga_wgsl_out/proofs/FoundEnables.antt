@@ -1,4 +1,5 @@
 -- Extensions that are found one by one are those of all.
+-- Serves 5 contracts, `of_arguments` among them.
 --
 -- Throughout, test says of an item which extensions it needs.
 use Rattle.std.proofs.Common.{◌≡◌, ◌+◌, ◌<◌, ◌∙◌, ℕ, Bool, List, [], ◌∷◌, ap, drop, false, get_or, length}

@@ -1,4 +1,5 @@
 -- What is answered of a module that comes without an info.
+-- Serves `write_inferred` and `write_typed_within`.
 use Rattle.std.proofs.Common.{◌≡◌, Err, None, Ok, Result, inr}
 use Rattle.std.specs.declared.string.String.{String}
 use Rattle.module_limits.specs.Nesting.{nested_past}

@@ -1,13 +1,17 @@
 -- The parts that the texts of declarations share, from what is written of them in turn; and what
 -- stands in front of a module's functions.
+-- Serves 25 contracts, `write_first_value` among them.
 --
 -- Throughout, m is a module, and rest what stands after a type.
 use Rattle.std.proofs.Common.{◌≡◌, ◌++◌, ◌==◌, ℕ, List, [], ◌∷◌, append_assoc, ap, arith, codes}
 use Rattle.std.proofs.Common.{length, map, ne_eqb, refl, suc, sym}
 use Rattle.std.specs.List.{enumerate_from}
-use Rattle.std.specs.Prelude.{Some, None, if◌then◌else◌}
+use Rattle.std.specs.Prelude.{Some, None, IsTrue, if◌then◌else◌}
 use Rattle.naga_ir.specs.declared.module.Module.{Module}
+use Rattle.naga_naming.specs.Keys.{names_in}
 use Rattle.naga_naming.specs.declared.key.NameKey.{NameKey}
+use Rattle.module_semantics.specs.acceptance.Accepted.{is_accepted}
+use Rattle.module_semantics.specs.DeclarationForms.{DeclarationsHaveForms}
 use Rattle.module_semantics.specs.Names.{module_names, name_in}
 use Rattle.module_semantics.specs.Types.{type_names}
 use Rattle.naga_form.specs.ConstantForms.{global_form}
@@ -18,7 +22,10 @@ use Rattle.wgsl_text.specs.Text.{text}
 use Rattle.naga_wgsl_shared.specs.Constants.{global_text}
 use Rattle.naga_wgsl_fns.specs.Functions.{group_end_text}
 use Rattle.naga_wgsl_shared.specs.Types.{spelled_text}
-use Rattle.naga_wgsl_out.specs.Items.{first_value_text, typed_text, value_text}
+use Rattle.naga_scope.specs.declared.known_module.KnownModule.{KnownModule}
+use Rattle.naga_tables.specs.Tables.{AreTablesOf}
+use Rattle.naga_wgsl_out.specs.Items.{CanWriteModule, first_value_text, typed_text, value_text}
+use Rattle.naga_wgsl_out.specs.ModuleRefusals.{HasAllNames}
 
 pub typed_row : (m : Module) (key : NameKey) (ty : ℕ) →
     typed_text m key ty ≡
@@ -58,3 +65,15 @@ group_end_row form [] = refl
 group_end_row form (item ∷ items) =
     ap (λ b. if b then [] else codes "\n")
     (ne_eqb (suc (length items)) 0 (λ same. absurd (omega arith)))
+
+-- ---- what is asked of a module that is written
+-- It is accepted, all that it declares has forms, its tables are its own, and all its items have
+-- names.
+pub can_write_module : (k : KnownModule) → IsTrue (is_accepted k.shader.now k.info.now) →
+    DeclarationsHaveForms k.shader.now → AreTablesOf k.shader.now k.tables.now →
+    HasAllNames k.shader.now (names_in k.names.now) → CanWriteModule k
+can_write_module k accepted declared tables names = record {
+  known = record { accepted = accepted; named = names.named; tables = tables };
+  declared = declared;
+  names = names;
+}

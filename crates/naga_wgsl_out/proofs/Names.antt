@@ -1,4 +1,5 @@
 -- What a `Namer` that was reset by a module knows of the module's names.
+-- Serves `reset_for_wgsl`.
 use Rattle.std.proofs.Common.{◌≡◌, ℕ, zero, suc, ◌<◌, ◌≤◌, ◌^◌, true, false, List, length, Some}
 use Rattle.std.proofs.Common.{None, sym, ap, subst, unwrap_or, [], ◌∙◌, arith, append-nil}
 use Rattle.std.specs.Prelude.{slice_get, map, nat_lt, Result, Ok, Err, OnOk, IfErr, IsErr}

@@ -1,4 +1,5 @@
 -- The sizes that the members of a struct are given, by what is looked up of the module.
+-- Serves `given_size`.
 --
 -- Throughout, t is the text of a module m, h the handle of a struct with these members and span bytes,
 -- s its member number i, f tells layouts of types, and l is a layout.

@@ -1,4 +1,5 @@
 -- The texts of structs, from what is written of them in turn.
+-- Serves 6 contracts, `write` among them.
 --
 -- Throughout, m is a module, h the handle of a type t of it, s a member of a struct, and i its number.
 use Rattle.std.proofs.Common.{◌≡◌, ◌∙◌, ◌++◌, ◌+◌, ◌<◌, ◌≤◌, ◌^◌, ℕ, Bool, true, false, List, []}

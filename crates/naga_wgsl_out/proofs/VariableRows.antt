@@ -1,4 +1,5 @@
 -- The texts of variables, from what is written of them in turn.
+-- Serves 9 contracts, `write_resource` among them.
 --
 -- Throughout, m is a module, h the handle of a variable v of it, and access what may be done with what
 -- lives in a space.

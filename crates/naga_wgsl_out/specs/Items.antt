@@ -1,6 +1,6 @@
 -- What the texts of declarations want of the module, and the parts that they share.
 --
--- Throughout, m is a module, and t its text.
+-- Throughout, m is a module, t its text, and k what is known of it.
 use Rattle.std.specs.Prelude.{◌≡◌, ℕ, ◌++◌, List, Option, Some, codes}
 use Rattle.std.specs.Option.{option_map}
 use Rattle.naga_ir.specs.declared.module.Module.{Module}
@@ -15,13 +15,21 @@ use Rattle.wgsl_text.specs.Text.{text}
 use Rattle.naga_wgsl_shared.specs.ModuleText.{CanWriteIn}
 use Rattle.naga_wgsl_shared.specs.Types.{spelled_text}
 use Rattle.naga_wgsl_shared.specs.declared.module_text.ModuleText.{ModuleText}
-use Rattle.naga_wgsl_out.specs.ModuleRefusals.{KeyIsOutOfRange}
+use Rattle.naga_scope.specs.KnownModules.{IsKnownModule}
+use Rattle.naga_scope.specs.declared.known_module.KnownModule.{KnownModule}
+use Rattle.naga_wgsl_out.specs.ModuleRefusals.{HasAllNames, KeyIsOutOfRange}
 
 -- it can be written, what it declares has forms, and there is a key for each of its items
 pub record CanDeclare (t : ModuleText) : Type 0 where
   pub can : CanWriteIn t
   pub forms : DeclarationsHaveForms t.shader.now
   pub keys : KeyIsOutOfRange t.shader.now → ⊥
+
+-- what it declares has forms too, and the map has the names of all its items, which can all be told
+pub record CanWriteModule (k : KnownModule) : Type 0 where
+  pub known : IsKnownModule k
+  pub declared : DeclarationsHaveForms k.shader.now
+  pub names : HasAllNames k.shader.now (names_in k.names.now)
 
 -- the item with this key has its name
 abbrev pub IsNamedIn : ModuleText → NameKey → Type 0

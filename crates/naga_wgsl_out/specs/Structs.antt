@@ -20,7 +20,9 @@ use Rattle.wgsl_layout.specs.declared.layouts.Layout.{Layout}
 use Rattle.wgsl_text.specs.Attributes.{Attribute, Numbered, Size}
 use Rattle.wgsl_text.specs.Declarations.{Struct, StructMember, members_pieces, structs_pieces}
 use Rattle.wgsl_text.specs.Text.{text}
+use Rattle.naga_wgsl_out.specs.Items.{CanDeclare}
 use Rattle.naga_wgsl_out.specs.declared.structs.After.{After}
+use Rattle.naga_wgsl_out.specs.declared.structs.StructText.{StructText}
 
 -- ---- what is declared
 -- a struct that a text declares, with these members and so many bytes
@@ -38,6 +40,11 @@ pub record IsDeclaredMember (m : Module) (h i : ℕ) (s : ir_member.StructMember
   pub at : slice_get m.types h ≡ Some whole
   pub declared : IsTrue (is_declared m.special_types h whole.inner)
   pub there : slice_get (members_of whole.inner) i ≡ Some s
+
+-- the text wants what those of declarations want of its module, and the struct is declared
+pub record CanDeclareStruct (s : StructText) : Type 0 where
+  pub can : CanDeclare s.text
+  pub declared : IsDeclaredStruct s.text.shader.now s.handle s.members.now s.span
 
 -- ---- what stands after a member
 -- the next member, if its type has a layout

@@ -3,32 +3,26 @@
 
 ghost use Rattle.std.specs.Prelude.{◌≡◌, ℕ, IsTrue, Some};
 ghost use Rattle.module_semantics.specs.AlikeTypes.{has_type_form};
-ghost use Rattle.module_semantics.specs.DeclarationForms.{DeclarationsHaveForms};
-ghost use Rattle.module_semantics.specs.Names.{HasNamesOf};
 ghost use Rattle.module_semantics.specs.ExpressionForms.{global_has_form};
 ghost use Rattle.naga_info.specs.declared.info.TypeResolution.TheVariants as resolution;
-ghost use Rattle.naga_naming.specs.Keys.{names_in};
-ghost use Rattle.naga_tables.specs.Tables.{AreTablesOf};
 ghost use Rattle.naga_words.specs.Output.{Writes};
 ghost use Rattle.naga_wgsl_shared.specs.Appends.{Appends};
-ghost use Rattle.naga_wgsl_shared.specs.ModuleText.{CanWriteIn, CanWriteOf};
+ghost use Rattle.naga_wgsl_shared.specs.ModuleText.{CanWriteIn};
 ghost use Rattle.naga_wgsl_out.specs.Declarations.{declarations_text};
-ghost use Rattle.naga_wgsl_out.specs.Items.{CanDeclare, IsNamedIn, first_value_text, typed_text};
-ghost use Rattle.naga_wgsl_out.specs.Items.{value_text};
-ghost use Rattle.naga_wgsl_out.specs.ModuleRefusals.{KeyIsOutOfRange};
+ghost use Rattle.naga_wgsl_out.specs.Items.{CanDeclare, CanWriteModule, IsNamedIn};
+ghost use Rattle.naga_wgsl_out.specs.Items.{first_value_text, typed_text, value_text};
 
 use crate::constants::{write_constants, write_overrides};
 use crate::structs::write_structs;
 use crate::variables::write_variables;
-use naga_ir::{Expression, Handle, Module, Type_};
+use naga_ir::{Expression, Handle, Type_};
 use naga_naming::NameKey;
 use naga_refusals::Error;
 use naga_refusals::error::error_of_want;
-use naga_tables::ModuleTables;
+use naga_scope::KnownModule;
 use naga_wgsl_shared::module_text::ModuleText;
 use naga_words::{Output, TextSink};
 use std::alloc::Global;
-use std::collections::HashMap;
 
 /// Writes what the module declares in front of its functions: its structs, but those that no text
 /// declares, its constants that have names, its overrides and its variables, with an empty line
@@ -37,27 +31,20 @@ use std::collections::HashMap;
 /// Where the call gives up, because the sink failed or for want of memory, a beginning of the text
 /// stands after what the sink held.
 pub(crate) fn write_declarations<W: TextSink>(
-    alloc: Global,
-    module: &Module,
-    tables: &ModuleTables,
-    names: &HashMap<NameKey, String>,
+    known: &KnownModule<'_>,
     out: &mut W,
 ) -> Result<(), Error>
-    requires can { CanWriteOf «module».now }
-    requires tables { AreTablesOf «module».now tables.now }
-    requires declared { DeclarationsHaveForms «module».now }
-    requires names { HasNamesOf «module».now (names_in names.now) }
-    requires keys { KeyIsOutOfRange «module».now → ⊥ }
+    requires can { CanWriteModule known.now }
     ensures { Appends result (W.text out.old) (W.failures out.old)
-        (declarations_text «module».now) (W.text out.new) (W.failures out.new) }
+        (declarations_text known.now.shader.now) (W.text out.new) (W.failures out.new) }
 {
     let text = ModuleText {
-        shader: module,
-        tables,
-        names,
+        shader: known.shader,
+        tables: known.tables,
+        names: known.names,
     };
     let mut written = Output::new(out);
-    write_all(alloc, &text, &mut written);
+    write_all(known.alloc, &text, &mut written);
     match written.outcome() {
         Ok(()) => Ok(()),
         Err(want) => Err(error_of_want(want)),

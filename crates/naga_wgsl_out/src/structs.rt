@@ -8,7 +8,7 @@ ghost use Rattle.naga_words.specs.Output.{Writes};
 ghost use Rattle.wgsl_layout.specs.Capped.{IsAlignment};
 ghost use Rattle.naga_wgsl_shared.specs.Attributes.{attributes_text};
 ghost use Rattle.naga_wgsl_out.specs.Items.{CanDeclare, IsNamedIn};
-ghost use Rattle.naga_wgsl_out.specs.Structs.{IsDeclaredMember, IsDeclaredStruct, after_member};
+ghost use Rattle.naga_wgsl_out.specs.Structs.{CanDeclareStruct, IsDeclaredMember, after_member};
 ghost use Rattle.naga_wgsl_out.specs.Structs.{after_with, declared_text, member_text};
 ghost use Rattle.naga_wgsl_out.specs.Structs.{members_text, given_size_attributes, struct_text};
 ghost use Rattle.naga_wgsl_out.specs.Structs.{structs_text};
@@ -52,80 +52,95 @@ fn write_declared<W: TextSink>(
 {
     if let TypeInner::Struct { members, span } = &ty.inner {
         if !text.tables.is_undeclared(text.shader, handle) {
-            write_struct(alloc, text, handle, members, *span, out);
+            let declared = StructText {
+                alloc,
+                text: *text,
+                handle,
+                members,
+                span: *span,
+            };
+            declared.write(out);
         }
     }
 }
 
-fn write_struct<W: TextSink>(
+/// What the text of a struct is made from.
+#[derive(Clone, Copy)]
+struct StructText<'a> {
+    /// Where memory comes from.
     alloc: Global,
-    text: &ModuleText<'_>,
+    /// Its module.
+    text: ModuleText<'a>,
     handle: Handle<Type_>,
-    members: &[StructMember],
+    members: &'a [StructMember],
+    /// How many bytes it takes.
     span: u32,
-    out: &mut Output<'_, W>,
-)
-    requires can { CanDeclare text.now }
-    requires named { IsNamedIn text.now (key.Type_ handle) }
-    requires there { IsDeclaredStruct text.now.shader.now handle members.now span }
-    ensures { Writes W.text W.failures out.old out.new
-        (struct_text text.now.shader.now handle members.now) }
-{
-    out.put("struct ");
-    text.write_name(&NameKey::Type_(handle), out);
-    out.put(" {\n");
-    write_members(alloc, text, handle, members, span, out);
-    out.put("}\n\n");
 }
 
-/// The members of the struct with this handle and this many bytes.
-fn write_members<W: TextSink>(
-    alloc: Global,
-    text: &ModuleText<'_>,
-    handle: Handle<Type_>,
-    members: &[StructMember],
-    span: u32,
-    out: &mut Output<'_, W>,
-)
-    requires can { CanDeclare text.now }
-    requires there { IsDeclaredStruct text.now.shader.now handle members.now span }
-    ensures { Writes W.text W.failures out.old out.new
-        (members_text text.now.shader.now handle members.now) }
-{
-    for (index, member) in members.iter().enumerate() {
-        let number = index as u32;
-        let size = given_size(text, handle, members, span, number, member);
-        write_member(alloc, text, handle, number, size, member, out);
+impl StructText<'_> {
+    fn write<W: TextSink>(&self, out: &mut Output<'_, W>)
+        requires can { CanDeclareStruct self.now }
+        requires named { IsNamedIn self.now.text (key.Type_ self.now.handle) }
+        ensures { Writes W.text W.failures out.old out.new
+            (struct_text self.now.text.shader.now self.now.handle self.now.members.now) }
+    {
+        out.put("struct ");
+        self.text.write_name(&NameKey::Type_(self.handle), out);
+        out.put(" {\n");
+        self.write_members(out);
+        out.put("}\n\n");
     }
-}
 
-/// A member, with the size that it is given, if it is given one.
-fn write_member<W: TextSink>(
-    alloc: Global,
-    text: &ModuleText<'_>,
-    handle: Handle<Type_>,
-    number: u32,
-    size: Option<u32>,
-    member: &StructMember,
-    out: &mut Output<'_, W>,
-)
-    requires can { CanDeclare text.now }
-    requires there { IsDeclaredMember text.now.shader.now handle number member.now }
-    requires size { size ≡ written_size text.now.shader.now handle number }
-    ensures { Writes W.text W.failures out.old out.new
-        (member_text text.now.shader.now handle number member.now) }
-{
-    out.put("    ");
-    write_size(size, out);
-    write_optional_binding(member.binding, out);
-    write_typed(
-        alloc,
-        text,
-        &NameKey::StructMember(handle, number),
-        member.ty,
-        out,
-    );
-    out.put(",\n");
+    fn write_members<W: TextSink>(&self, out: &mut Output<'_, W>)
+        requires { CanDeclareStruct self.now }
+        ensures { Writes W.text W.failures out.old out.new
+            (members_text self.now.text.shader.now self.now.handle self.now.members.now) }
+    {
+        let members = self.members;
+        for (index, member) in members.iter().enumerate() {
+            let number = index as u32;
+            let size = self.given_size(number, member);
+            self.write_member(number, size, member, out);
+        }
+    }
+
+    /// A member, with the size that it is given, if it is given one.
+    fn write_member<W: TextSink>(
+        &self,
+        number: u32,
+        size: Option<u32>,
+        member: &StructMember,
+        out: &mut Output<'_, W>,
+    )
+        requires can { CanDeclareStruct self.now }
+        requires there { IsDeclaredMember self.now.text.shader.now self.now.handle number
+            member.now }
+        requires size { size ≡ written_size self.now.text.shader.now self.now.handle number }
+        ensures { Writes W.text W.failures out.old out.new
+            (member_text self.now.text.shader.now self.now.handle number member.now) }
+    {
+        out.put("    ");
+        write_size(size, out);
+        write_optional_binding(member.binding, out);
+        let key = NameKey::StructMember(self.handle, number);
+        write_typed(self.alloc, &self.text, &key, member.ty, out);
+        out.put(",\n");
+    }
+
+    /// The size that this member is given: the bytes up to what stands after it in the module,
+    /// where WGSL's rules alone would have that begin earlier. A struct that has no layout is
+    /// written without sizes.
+    fn given_size(&self, number: u32, member: &StructMember) -> Option<u32>
+        requires can { CanDeclareStruct self.now }
+        requires there { slice_get self.now.members.now number ≡ Some member.now }
+        ensures { result ≡ written_size self.now.text.shader.now self.now.handle number }
+    {
+        let text = &self.text;
+        let whole = text.tables.layout(text.shader, self.handle)?;
+        let own = text.tables.layout(text.shader, member.ty)?;
+        let after = after_member(text, self.members, number, self.span, whole.alignment)?;
+        gap_size(member.offset, own.size, after.offset, after.alignment)
+    }
 }
 
 /// The size that a member is given, if it is given one.
@@ -136,28 +151,6 @@ fn write_size<W: TextSink>(size: Option<u32>, out: &mut Output<'_, W>)
         Some(size) => write_numbered("@size(", size, out),
         None => {}
     }
-}
-
-/// The size that this member of a struct is given: the bytes up to what stands after it in the
-/// module, where WGSL's rules alone would have that begin earlier. A struct that has no layout is
-/// written without sizes.
-fn given_size(
-    text: &ModuleText<'_>,
-    handle: Handle<Type_>,
-    members: &[StructMember],
-    span: u32,
-    number: u32,
-    member: &StructMember,
-) -> Option<u32>
-    requires can { CanDeclare text.now }
-    requires whole { IsDeclaredStruct text.now.shader.now handle members.now span }
-    requires there { slice_get members.now number ≡ Some member.now }
-    ensures { result ≡ written_size text.now.shader.now handle number }
-{
-    let whole = text.tables.layout(text.shader, handle)?;
-    let own = text.tables.layout(text.shader, member.ty)?;
-    let after = after_member(text, members, number, span, whole.alignment)?;
-    gap_size(member.offset, own.size, after.offset, after.alignment)
 }
 
 /// What stands after a member of a struct: the next one, or the struct's end.

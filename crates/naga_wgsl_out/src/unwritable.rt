@@ -2,13 +2,11 @@
 
 ghost use Rattle.std.specs.Prelude.{◌≡◌, IfOk, IfSome, IsTrue, MatchOption};
 ghost use Rattle.module_semantics.specs.acceptance.Accepted.{is_accepted};
-ghost use Rattle.module_semantics.specs.DeclarationForms.{DeclarationsHaveForms};
-ghost use Rattle.module_semantics.specs.FunctionNumbers.{IsFunctionOf, function_number};
-ghost use Rattle.module_semantics.specs.Names.{HasNamesOf};
+ghost use Rattle.module_semantics.specs.FunctionNumbers.{IsFunctionOf};
 ghost use Rattle.naga_back.specs.Flags.{annotates_types};
-ghost use Rattle.naga_naming.specs.Keys.{names_in};
-ghost use Rattle.naga_tables.specs.Tables.{AreTablesOf};
-ghost use Rattle.naga_wgsl_out.specs.ModuleRefusals.{HasAllNames, HasNamedBefore, NothingIsRefused};
+ghost use Rattle.naga_scope.specs.KnownModules.{IsKnownModule, explicit_in, number_in};
+ghost use Rattle.naga_wgsl_out.specs.Items.{CanWriteModule};
+ghost use Rattle.naga_wgsl_out.specs.ModuleRefusals.{HasNamedBefore, NothingIsRefused};
 ghost use Rattle.naga_wgsl_out.specs.Unwritable.{IsFirst, IsFoundOf, IsRefusalOf, IsWritable};
 ghost use Rattle.naga_wgsl_out.specs.Unwritable.{StandsIn, position_at};
 
@@ -17,13 +15,11 @@ use naga_back::{FunctionType, WriterFlags};
 use naga_info::ModuleInfo;
 use naga_ir::{Function, Handle, ItemIndex, Module};
 use naga_names::namer::Namer;
-use naga_naming::NameKey;
 use naga_refusals::Construct;
-use naga_scope::{FunctionRefusalPosition, RefusalPosition};
+use naga_scope::{FunctionRefusalPosition, KnownModule, RefusalPosition};
 use naga_tables::{ModuleTables, unsupported_declaration};
 use naga_wgsl_fns::{Unplanned, construct_of_names, plan_or_refusal};
 use std::alloc::{AllocError, Global};
-use std::collections::HashMap;
 
 /// A construct for which a module is refused, and where it stands.
 #[derive(Clone, Copy, Debug, PartialEq, Eq)]
@@ -79,7 +75,15 @@ pub fn unwritable(
     }
     match items_named(alloc, module) {
         Ok((names, mut namer)) => {
-            unwritable_function(alloc, module, info, &tables, &names, &mut namer, flags)
+            let known = KnownModule {
+                alloc,
+                shader: module,
+                info,
+                tables: &tables,
+                names: &names,
+                flags,
+            };
+            unwritable_function(&known, &mut namer)
         }
         Err(error) => {
             let construct = construct_of_names(error)?;
@@ -94,35 +98,28 @@ pub fn unwritable(
 /// The answer of [`unwritable`] for a module whose declarations have forms and whose items have names,
 /// by its functions and its entry points.
 fn unwritable_function(
-    alloc: Global,
-    module: &Module,
-    info: &ModuleInfo,
-    tables: &ModuleTables,
-    names: &HashMap<NameKey, String>,
+    known: &KnownModule<'_>,
     namer: &mut Namer,
-    flags: WriterFlags,
 ) -> Result<Option<Refusal>, AllocError>
-    requires accepted { IsTrue (is_accepted «module».now info.now) }
-    requires declared { DeclarationsHaveForms «module».now }
-    requires tables { AreTablesOf «module».now tables.now }
-    requires names { HasAllNames «module».now (names_in names.now) }
-    requires namer { HasNamedBefore «module».now 0 namer.old }
+    requires can { CanWriteModule known.now }
+    requires namer { HasNamedBefore known.now.shader.now 0 namer.old }
     ensures stands { IfOk result (λ found. MatchOption found
-        (NothingIsRefused (annotates_types flags) «module».now info.now)
-        (StandsIn (annotates_types flags) «module».now info.now)) }
+        (NothingIsRefused (explicit_in known.now) known.now.shader.now known.now.info.now)
+        (StandsIn (explicit_in known.now) known.now.shader.now known.now.info.now)) }
     ensures first { IfOk result (λ found. IfSome found (λ refusal.
-        IsFirst (annotates_types flags) «module».now info.now refusal.position)) }
+        IsFirst (explicit_in known.now) known.now.shader.now known.now.info.now
+        refusal.position)) }
 {
-    for index in 0..module.functions.len() {
+    for index in 0..known.shader.functions.len() {
         let ty = FunctionType::Function(ItemIndex::from_index(index));
-        let found = refused_in(alloc, module, info, &ty, tables, names, namer, flags)?;
+        let found = refused_in(known, &ty, namer)?;
         if let Some(refusal) = found {
             return Ok(Some(refusal));
         }
     }
-    for index in 0..module.entry_points.len() {
+    for index in 0..known.shader.entry_points.len() {
         let ty = FunctionType::EntryPoint(index as u16);
-        let found = refused_in(alloc, module, info, &ty, tables, names, namer, flags)?;
+        let found = refused_in(known, &ty, namer)?;
         if let Some(refusal) = found {
             return Ok(Some(refusal));
         }
@@ -133,26 +130,19 @@ fn unwritable_function(
 /// The first construct for which this function is refused, and where it stands. Where there is none,
 /// the namer has named its labels too.
 fn refused_in(
-    alloc: Global,
-    module: &Module,
-    info: &ModuleInfo,
+    known: &KnownModule<'_>,
     ty: &FunctionType,
-    tables: &ModuleTables,
-    names: &HashMap<NameKey, String>,
     namer: &mut Namer,
-    flags: WriterFlags,
 ) -> Result<Option<Refusal>, AllocError>
-    requires accepted { IsTrue (is_accepted «module».now info.now) }
-    requires there { IsFunctionOf ty.now «module».now }
-    requires tables { AreTablesOf «module».now tables.now }
-    requires names { HasNamesOf «module».now (names_in names.now) }
-    requires namer { HasNamedBefore «module».now (function_number «module».now ty.now) namer.old }
+    requires known { IsKnownModule known.now }
+    requires there { IsFunctionOf ty.now known.now.shader.now }
+    requires namer { HasNamedBefore known.now.shader.now (number_in known.now ty.now) namer.old }
     ensures { IfOk result (λ found. MatchOption found
-        (IsWritable (annotates_types flags) «module».now info.now
-        (function_number «module».now ty.now) namer.new)
-        (IsRefusalOf (annotates_types flags) «module».now info.now ty.now)) }
+        (IsWritable (explicit_in known.now) known.now.shader.now known.now.info.now
+        (number_in known.now ty.now) namer.new)
+        (IsRefusalOf (explicit_in known.now) known.now.shader.now known.now.info.now ty.now)) }
 {
-    match plan_or_refusal(alloc, module, info, ty, tables, names, flags, namer) {
+    match plan_or_refusal(known, ty, namer) {
         Ok(plan) => {
             drop(plan);
             Ok(None)

@@ -3,21 +3,20 @@
 ghost use Rattle.std.specs.Prelude.{◌≡◌, [], IfErr, IfOk, IsTrue, OnOk};
 ghost use Rattle.std.specs.Prelude.{string_bytes};
 ghost use Rattle.module_semantics.specs.acceptance.Accepted.{is_accepted};
-ghost use Rattle.module_semantics.specs.DeclarationForms.{DeclarationsHaveForms};
-ghost use Rattle.module_semantics.specs.FunctionNumbers.{IsFunctionOf, function_number};
+ghost use Rattle.module_semantics.specs.FunctionNumbers.{IsFunctionOf};
 ghost use Rattle.naga_naming.specs.Keys.{names_in};
 ghost use Rattle.naga_naming.specs.Refusal.{IsResetRefusal};
 ghost use Rattle.module_semantics.specs.Names.{HasNamesOf, wgsl_names};
-ghost use Rattle.naga_scope.specs.Plans.{AreExpressionNames, IsPlanOf};
-ghost use Rattle.naga_tables.specs.Tables.{AreTablesOf};
+ghost use Rattle.naga_scope.specs.Plans.{AreExpressionNames};
 ghost use Rattle.naga_wgsl_shared.specs.Appends.{Appends};
 ghost use Rattle.naga_back.specs.Flags.{annotates_types};
 ghost use Rattle.naga_wgsl_out.specs.Headline.{EachReading, FaithfulWriting, MatchesModule};
 ghost use Rattle.naga_wgsl_out.specs.Headline.{answer_of, text_of};
 ghost use Rattle.naga_wgsl_out.specs.Leaving.{Leaves};
 ghost use Rattle.naga_wgsl_fns.specs.Items.{HasNamedItemsOf};
-ghost use Rattle.naga_wgsl_shared.specs.ModuleText.{CanWriteOf};
+ghost use Rattle.naga_scope.specs.KnownModules.{IsPlanIn, explicit_in, number_in};
 ghost use Rattle.naga_refusals.specs.Errors.{TellsOfModule};
+ghost use Rattle.naga_wgsl_out.specs.Items.{CanWriteModule};
 ghost use Rattle.naga_wgsl_out.specs.ModuleRefusals.{HasAllNames, HasNamedBefore};
 ghost use Rattle.naga_wgsl_out.specs.ModuleRefusals.{IsNamesRefusal};
 ghost use Rattle.naga_wgsl_out.specs.Unwritable.{TellsFirst, TellsRefusalOf};
@@ -36,7 +35,7 @@ use naga_names::keywords::RESERVED_PREFIXES;
 use naga_names::namer::{NameKey, Namer, NamerError};
 use naga_refusals::Error;
 use naga_refusals::error::names_error;
-use naga_scope::Plan;
+use naga_scope::{KnownModule, Plan};
 use naga_tables::{ModuleTables, unsupported_declaration};
 use naga_wgsl_fns::{plan_of, write_planned};
 use naga_wgsl_shared::put;
@@ -138,47 +137,28 @@ impl<W: TextSink> Writer<W> {
             return Err(construct.to_error(self.alloc));
         }
         let (names, mut namer) = names_of(self.alloc, module)?;
-        write_front(
-            self.alloc,
-            module,
+        let known = KnownModule {
+            alloc: self.alloc,
+            shader: module,
             info,
-            &tables,
-            &names,
-            self.flags,
-            &mut self.out,
-        )?;
-        write_functions(
-            self.alloc,
-            module,
-            info,
-            &tables,
-            &names,
-            &mut namer,
-            self.flags,
-            &mut self.out,
-        )
+            tables: &tables,
+            names: &names,
+            flags: self.flags,
+        };
+        write_front(&known, &mut self.out)?;
+        write_functions(&known, &mut namer, &mut self.out)
     }
 }
 
 /// Writes what the text enables, and the declarations in front of the functions.
-fn write_front<W: TextSink>(
-    alloc: Global,
-    module: &Module,
-    info: &ModuleInfo,
-    tables: &ModuleTables,
-    names: &HashMap<NameKey, String>,
-    flags: WriterFlags,
-    out: &mut W,
-) -> Result<(), Error>
-    requires can { CanWriteOf «module».now }
-    requires tables { AreTablesOf «module».now tables.now }
-    requires declared { DeclarationsHaveForms «module».now }
-    requires names { HasAllNames «module».now (names_in names.now) }
+fn write_front<W: TextSink>(known: &KnownModule<'_>, out: &mut W) -> Result<(), Error>
+    requires can { CanWriteModule known.now }
     ensures { Appends result (W.text out.old) (W.failures out.old)
-        (front_text «module».now info.now flags) (W.text out.new) (W.failures out.new) }
+        (front_text known.now.shader.now known.now.info.now known.now.flags) (W.text out.new)
+        (W.failures out.new) }
 {
-    write_enables(module, info, flags, out)?;
-    write_declarations(alloc, module, tables, names, out)
+    write_enables(known.shader, known.info, known.flags, out)?;
+    write_declarations(known, out)
 }
 
 /// Writes the functions of the module and then its entry points, up to the first in which an operand
@@ -186,91 +166,66 @@ fn write_front<W: TextSink>(
 /// one spelled, or a label gets no name. The namer has named the items of the module, and goes on
 /// with what front ends named.
 fn write_functions<W: TextSink>(
-    alloc: Global,
-    module: &Module,
-    info: &ModuleInfo,
-    tables: &ModuleTables,
-    names: &HashMap<NameKey, String>,
+    known: &KnownModule<'_>,
     namer: &mut Namer,
-    flags: WriterFlags,
     out: &mut W,
 ) -> Result<(), Error>
-    requires accepted { IsTrue (is_accepted «module».now info.now) }
-    requires declared { DeclarationsHaveForms «module».now }
-    requires tables { AreTablesOf «module».now tables.now }
-    requires names { HasAllNames «module».now (names_in names.now) }
-    requires namer { HasNamedBefore «module».now 0 namer.old }
-    ensures wrote { WritesFunctions «module».now info.now flags result (W.text out.old)
-        (W.failures out.old) (W.text out.new) (W.failures out.new) }
+    requires can { CanWriteModule known.now }
+    requires namer { HasNamedBefore known.now.shader.now 0 namer.old }
+    ensures wrote { WritesFunctions known.now.shader.now known.now.info.now known.now.flags result
+        (W.text out.old) (W.failures out.old) (W.text out.new) (W.failures out.new) }
     ensures told { IfErr result (λ e. TellsOfModule e →
-        TellsFirst (annotates_types flags) «module».now info.now e) }
+        TellsFirst (explicit_in known.now) known.now.shader.now known.now.info.now e) }
 {
-    for index in 0..module.functions.len() {
+    for index in 0..known.shader.functions.len() {
         let ty = FunctionType::Function(ItemIndex::from_index(index));
-        write_next(alloc, module, info, tables, names, &ty, namer, flags, out)?;
+        write_next(known, &ty, namer, out)?;
     }
-    for index in 0..module.entry_points.len() {
+    for index in 0..known.shader.entry_points.len() {
         let ty = FunctionType::EntryPoint(index as u16);
-        write_next(alloc, module, info, tables, names, &ty, namer, flags, out)?;
+        write_next(known, &ty, namer, out)?;
     }
     Ok(())
 }
 
 /// Writes the next function, or the next entry point, if there is a plan of it.
 fn write_next<W: TextSink>(
-    alloc: Global,
-    module: &Module,
-    info: &ModuleInfo,
-    tables: &ModuleTables,
-    names: &HashMap<NameKey, String>,
+    known: &KnownModule<'_>,
     ty: &FunctionType,
     namer: &mut Namer,
-    flags: WriterFlags,
     out: &mut W,
 ) -> Result<(), Error>
-    requires accepted { IsTrue (is_accepted «module».now info.now) }
-    requires declared { DeclarationsHaveForms «module».now }
-    requires there { IsFunctionOf ty.now «module».now }
-    requires tables { AreTablesOf «module».now tables.now }
-    requires names { HasNamesOf «module».now (names_in names.now) }
-    requires namer { HasNamedBefore «module».now (function_number «module».now ty.now) namer.old }
-    ensures wrote { WritesNext «module».now info.now flags (function_number «module».now ty.now)
-        namer.new result (W.text out.old) (W.failures out.old) (W.text out.new)
-        (W.failures out.new) }
+    requires can { CanWriteModule known.now }
+    requires there { IsFunctionOf ty.now known.now.shader.now }
+    requires namer { HasNamedBefore known.now.shader.now (number_in known.now ty.now) namer.old }
+    ensures wrote { WritesNext known.now.shader.now known.now.info.now known.now.flags
+        (number_in known.now ty.now) namer.new result (W.text out.old) (W.failures out.old)
+        (W.text out.new) (W.failures out.new) }
     ensures told { IfErr result (λ e. TellsOfModule e →
-        TellsRefusalOf (annotates_types flags) «module».now info.now ty.now e) }
+        TellsRefusalOf (explicit_in known.now) known.now.shader.now known.now.info.now ty.now e) }
 {
-    let plan = plan_of(alloc, module, info, ty, tables, names, flags, namer)?;
-    write_with_line(alloc, module, info, tables, names, flags, ty, plan, out)
+    let plan = plan_of(known, ty, namer)?;
+    write_with_line(known, ty, plan, out)
 }
 
 /// A function or an entry point by its plan, with its empty line.
 fn write_with_line<W: TextSink>(
-    alloc: Global,
-    module: &Module,
-    info: &ModuleInfo,
-    tables: &ModuleTables,
-    names: &HashMap<NameKey, String>,
-    flags: WriterFlags,
+    known: &KnownModule<'_>,
     ty: &FunctionType,
     plan: Plan,
     out: &mut W,
 ) -> Result<(), Error>
-    requires accepted { IsTrue (is_accepted «module».now info.now) }
-    requires declared { DeclarationsHaveForms «module».now }
-    requires there { IsFunctionOf ty.now «module».now }
-    requires tables { AreTablesOf «module».now tables.now }
-    requires names { HasNamesOf «module».now (names_in names.now) }
-    requires planned { IsPlanOf (annotates_types flags) «module».now info.now
-        (function_number «module».now ty.now) plan }
-    requires named { AreExpressionNames «module».now (function_number «module».now ty.now)
+    requires can { CanWriteModule known.now }
+    requires there { IsFunctionOf ty.now known.now.shader.now }
+    requires planned { IsPlanIn known.now ty.now plan }
+    requires named { AreExpressionNames known.now.shader.now (number_in known.now ty.now)
         plan.named }
     ensures { Appends result (W.text out.old) (W.failures out.old)
-        (spaced_function_at «module».now info.now flags (function_number «module».now ty.now))
-        (W.text out.new) (W.failures out.new) }
+        (spaced_function_at known.now.shader.now known.now.info.now known.now.flags
+        (number_in known.now ty.now)) (W.text out.new) (W.failures out.new) }
 {
-    write_planned(alloc, module, info, tables, names, flags, ty, plan, out)?;
-    put(line_after(module, ty), out)
+    write_planned(known, ty, plan, out)?;
+    put(line_after(known.shader, ty), out)
 }
 
 /// The empty line after a function that others may call, and between two entry points.

@@ -1,4 +1,5 @@
 -- How calls that write texts one after another write the texts together.
+-- Serves `naga_wgsl_out`.
 use Rattle.std.proofs.Common.{◌≡◌, ℕ, List, [], ◌++◌, append_assoc, Result, Ok, Err, refl, sym, ap}
 use Rattle.std.proofs.Common.{◌∙◌, subst}
 use Rattle.std.proofs.lemmas.List.{append-nil}

@@ -1,4 +1,5 @@
 -- The texts of attributes, from what is written of them in turn.
+-- Serves 18 contracts, `write_blend_source` among them.
 --
 -- Throughout, list are attributes, more those after one, n is a number, w a word, i an interpolation
 -- and s a sampling.

@@ -1,4 +1,5 @@
 -- The texts of integers and of numerals, from what is written of them in turn.
+-- Serves 7 contracts, `write_double` among them.
 use Rattle.std.proofs.Common.{◌≡◌, ◌++◌, ℕ, ℤ, pos, negsuc, false, codes, decimal, refl, ap, ◌==◌}
 use Rattle.std.proofs.Common.{ne_eqb, append_assoc, sym, ◌∙◌, Bool, true, List, [], ◌∷◌, zero, suc}
 use Rattle.std.specs.Fmt.{digits, sign_text, signed_decimal}

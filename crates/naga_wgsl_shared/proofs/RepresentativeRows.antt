@@ -1,4 +1,5 @@
 -- A module's own expression is written by another where it names constants without names.
+-- Serves `global`.
 --
 -- Throughout, m is a module, representatives tell by which each of its own expressions is written, h is one of
 -- these, and e what stands there.

@@ -1,4 +1,5 @@
 -- A binding, written by itself.
+-- Serves `write_binding`.
 use Rattle.std.proofs.Common.{◌≡◌, ◌++◌, ℕ, List, [], append-nil, inl, inr, refl, sym}
 use Rattle.std.specs.Prelude.{Err, IfErr, IsFalse, IsTrue, Ok, OnErr, OnOk, Result, Some}
 use Rattle.naga_ir.specs.declared.binding.Binding.{Binding}

@@ -1,4 +1,5 @@
 -- The texts of the stages of entry points, from what is written of them in turn.
+-- Serves 9 contracts, `write_stage` among them.
 --
 -- Throughout, m is a module, e an entry point of it, front is what stands in front of a variable, and
 -- x, y and z are the parts of a workgroup's size.

@@ -1,4 +1,5 @@
 -- What is said of a type's spelling, for types that have a form.
+-- Serves `write_type`.
 use Rattle.std.proofs.Common.{◌≡◌, ℕ, ◌<◌, true, List, [], ◌∷◌, ◌++◌, Option, Some, None}
 use Rattle.std.proofs.Common.{refl, sym, ap, subst, ◌∙◌, slice_get, length}
 use Rattle.std.specs.Prelude.{Bool, IsTrue, unwrap_or}

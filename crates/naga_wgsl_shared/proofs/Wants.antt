@@ -1,4 +1,5 @@
 -- What comes from a sink or from memory, which no refusal of a construct is.
+-- Serves `write_formed`, `write_global_expression` and `write_written_global`.
 use Rattle.std.proofs.Common.{ℕ, None, Option, Some, subst, sym}
 use Rattle.naga_refusals.specs.Constructs.{IsToldAs, IsToldOf}
 use Rattle.naga_refusals.specs.Errors.{IsErrorOf, IsWant, TellsOfModule}

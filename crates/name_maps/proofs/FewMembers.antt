@@ -1,4 +1,5 @@
 -- No struct has more members than there are keys for them.
+-- Serves `struct_rows`.
 --
 -- Throughout, m is a module whose structs are not too long, its are the types that are left with their
 -- handles, and h is the handle of a type t.

@@ -1,3 +1,4 @@
+pub mod DeclaredIdentifiers
 pub mod FewMembers
 pub mod MadeRows
 mod NameMapExamples

@@ -1,4 +1,5 @@
 -- Loops that make the rows of a list, item by item.
+-- Serves 7 contracts, `constant_rows` among them.
 --
 -- Throughout, one is the row of an item p, before are the rows that were made before it, after are those
 -- and its own, its are the items that were left then, left those that are left now, and whole is what

@@ -1,4 +1,5 @@
 -- A map of names has no number but counts, so that its text is told.
+-- Serves `map_text`.
 --
 -- Throughout, names are those of a module m, p is an item after its number, and one is the row of an item.
 use Rattle.std.proofs.Common.{◌≡◌, ◌∙◌, ℕ, List, [], ◌∷◌, Bool, true, false, Option, Some, None, ap}

@@ -1,4 +1,5 @@
 -- Names that have the name of each item of a module tell the same as those of its text.
+-- Serves `module_answers`.
 --
 -- Throughout, m is the module, names are the others, own those of its text, f and g are rows of items after
 -- their numbers, n is the number of the first item, and i the place of one in its list.

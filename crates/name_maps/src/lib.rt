@@ -3,6 +3,7 @@
 #![tactic(auto)]
 
 mod items;
+pub mod laws;
 mod rows;
 
 ghost use Rattle.std.specs.Prelude.{◌≡◌, IfOk, string_bytes};

@@ -1,5 +1,7 @@
 -- Whether a module is accepted doesn't depend on how far counts are raised.
-use Rattle.std.proofs.Common.{◌≡◌, true, List, [], ◌∷◌, refl, ap, inl, subst, sym}
+use Rattle.std.proofs.Common.{◌≡◌, ◌∙◌, true, List, [], ◌∷◌, refl, ap, inl, subst, sym}
+use Rattle.std.specs.Vec.{with_items}
+use Rattle.std.proofs.lemmas.List.{with_items_is}
 use Rattle.naga_ir.specs.declared.module.Module.{Module}
 use Rattle.naga_ir.specs.declared.types.Type_.{Type_}
 use Rattle.naga_info.specs.declared.info.ExpressionInfo.{ExpressionInfo}
@@ -10,6 +12,7 @@ use Rattle.naga_inference.specs.Following.{HasSameType, IsSameType}
 use Rattle.naga_inference.specs.Passes.{AllLike}
 use Rattle.naga_inference.proofs.SameAcceptance.{accepted_still}
 use Rattle.operand_levels.specs.Raised.{AllRaised, AreRaised}
+use Rattle.operand_levels.proofs.Raising.{all_count}
 
 module _ (types : List Type_) where
   same_types : (old new : List ExpressionInfo) → AreRaised old new → AllLike (HasSameType types) new old
@@ -39,3 +42,19 @@ still_accepted m old new types functions entry_points accepted =
     (same_own m.types old.const_expression_types.items))
     (all_same_types m.types old.functions.items new.functions.items functions)
     (all_same_types m.types old.entry_points.items new.entry_points.items entry_points) accepted
+
+-- where they are taken back into lists of their own
+pub accepted_with : (m : Module) (info : ModuleInfo) (fs ps : List (List ExpressionInfo)) →
+    AllRaised info.functions.items fs → AllRaised info.entry_points.items ps → is_accepted m info ≡ true →
+    is_accepted m (record info {
+      functions = with_items info.functions fs;
+      entry_points = with_items info.entry_points ps;
+    }) ≡ true
+accepted_with m info fs ps functions points =
+    let kept = with_items_is info.functions fs (all_count info.functions.items fs functions ∙ sym info.functions.ok.0) in
+    let points_kept =
+    with_items_is info.entry_points ps (all_count info.entry_points.items ps points ∙ sym info.entry_points.ok.0) in
+    still_accepted m info
+    (record info { functions = with_items info.functions fs; entry_points = with_items info.entry_points ps })
+    refl (subst (AllRaised info.functions.items) (sym kept) functions)
+    (subst (AllRaised info.entry_points.items) (sym points_kept) points)

@@ -1,6 +1,6 @@
 //! On which level each expression stands, and which of them are to be bound for it.
 
-ghost use Rattle.std.specs.Prelude.{◌≡◌, OnOk, IsTrue};
+ghost use Rattle.std.specs.Prelude.{◌≡◌, IfOk, IsFalse, IsTrue, OnOk};
 ghost use Rattle.naga_ir.specs.Operands.{expression_operands};
 ghost use Rattle.std.specs.Prelude.{map};
 ghost use Rattle.module_semantics.specs.acceptance.Accepted.{is_accepted};
@@ -16,7 +16,7 @@ use naga_ir::{Arena, EntryPoint, Expression, Function, Handle, Module};
 use std::alloc::{AllocError, Global};
 
 /// On how many levels operands may stand in one another before a `let` binds one: 60. An operator
-/// has two pairs of brackets at most, and WGSL's compilers take 127 pairs in one another.
+/// has two pairs of brackets at most, and a compiler of WGSL takes 127 pairs in one another.
 pub const MOST_LEVELS: usize = 60;
 
 /// From how many uses on a `let` binds an expression, where a number of uses binds it.
@@ -107,7 +107,8 @@ fn raise_uses(infos: &mut [ExpressionInfo], handle: Handle<Expression>)
     }
 }
 
-/// Raises the uses of an expression that stands too deep, and gives the level that its uses stand on.
+/// Raises the uses of an expression that stands too deep. It gives the level that its uses stand on, and
+/// whether it stood too deep.
 #[tactic(auto, using(crate::proofs::Raising::raised_at_once, crate::proofs::Raising::are_raised_still))]
 fn bind_expression(
     infos: &mut [ExpressionInfo],
@@ -115,40 +116,53 @@ fn bind_expression(
     function: &Function,
     handle: Handle<Expression>,
     expression: &Expression,
-) -> usize
+) -> (usize, bool)
     ensures known { infos.new ≡
         raised_where_deep infos.old (handle, expression.now)
         (level_over levels.now (expression_operands expression.now)) }
-    ensures level { result ≡ level_left function.now infos.new (handle, expression.now)
+    ensures level { result.0 ≡ level_left function.now infos.new (handle, expression.now)
+        (level_over levels.now (expression_operands expression.now)) }
+    ensures deep { result.1 ≡ is_too_deep expression.now
         (level_over levels.now (expression_operands expression.now)) }
     ensures raised { AreRaised infos.old infos.new }
 {
     let level = level_over(levels, expression);
-    if is_too_deep(expression, level) {
+    let is_deep = is_too_deep(expression, level);
+    if is_deep {
         raise_uses(infos, handle);
     }
     if is_bound(function, handle, expression, uses_at(infos, handle)) {
-        0
+        (0, is_deep)
     } else {
-        level
+        (level, is_deep)
     }
 }
 
-/// Raises the uses of a function's expressions that stand too deep.
+/// Raises the uses of a function's expressions that stand too deep, and says whether one did.
 #[tactic(auto, using(crate::proofs::Raising::begins, crate::proofs::Raising::goes_on, crate::proofs::Raising::are_through, crate::proofs::Raising::are_raised_still))]
 fn bind_in_function(
     alloc: Global,
     infos: &mut [ExpressionInfo],
     function: &Function,
-) -> Result<(), AllocError>
+) -> Result<bool, AllocError>
     ensures bound { OnOk result (infos.new ≡ bound_where_deep function.now infos.old) }
+    ensures unchanged { IfOk result (λ raises. IsFalse raises → infos.new ≡ infos.old) }
     ensures raised { AreRaised infos.old infos.new }
 {
     let mut levels = Vec::new(alloc);
+    let mut raises = false;
     for (handle, expression) in function.expressions.iter() {
-        levels.push(bind_expression(infos, levels.as_slice(), function, handle, expression))?;
+        let (level, is_deep) = bind_expression(
+            infos,
+            levels.as_slice(),
+            function,
+            handle,
+            expression,
+        );
+        levels.push(level)?;
+        raises |= is_deep;
     }
-    Ok(())
+    Ok(raises)
 }
 
 /// The same of the function with this index, if something is known of it.
@@ -158,15 +172,17 @@ fn bind_at(
     infos: &mut [FunctionInfo],
     index: usize,
     function: &Function,
-) -> Result<(), AllocError>
+) -> Result<bool, AllocError>
     ensures bound { OnOk result (infos.new ≡ with_bound infos.old index function.now) }
+    ensures unchanged { IfOk result (λ raises. IsFalse raises → infos.new ≡ infos.old) }
     ensures raised { AllRaised infos.old infos.new }
 {
     if index < infos.len() {
         let info = &mut infos[index];
-        bind_in_function(alloc, info.expressions.as_mut_slice(), function)?;
+        bind_in_function(alloc, info.expressions.as_mut_slice(), function)
+    } else {
+        Ok(false)
     }
-    Ok(())
 }
 
 #[tactic(auto, using(crate::proofs::Raising::all_begin, crate::proofs::Raising::all_go_on, crate::proofs::Raising::all_through, crate::proofs::Raising::all_raised_still))]
@@ -174,14 +190,16 @@ fn bind_in_functions(
     alloc: Global,
     infos: &mut [FunctionInfo],
     functions: &Arena<Function>,
-) -> Result<(), AllocError>
+) -> Result<bool, AllocError>
     ensures bound { OnOk result (infos.new ≡ all_bound_where_deep functions.now infos.old) }
+    ensures unchanged { IfOk result (λ raises. IsFalse raises → infos.new ≡ infos.old) }
     ensures raised { AllRaised infos.old infos.new }
 {
+    let mut raises = false;
     for (handle, function) in functions.iter() {
-        bind_at(alloc, infos, handle.index(), function)?;
+        raises |= bind_at(alloc, infos, handle.index(), function)?;
     }
-    Ok(())
+    Ok(raises)
 }
 
 #[tactic(auto, using(crate::proofs::Raising::points_go_on, crate::proofs::Raising::points_end, crate::proofs::Raising::all_bound, crate::proofs::Raising::all_through, crate::proofs::Raising::all_raised_still))]
@@ -189,15 +207,17 @@ fn bind_in_entry_points(
     alloc: Global,
     infos: &mut [FunctionInfo],
     entry_points: &[EntryPoint],
-) -> Result<(), AllocError>
+) -> Result<bool, AllocError>
     ensures bound { OnOk result (infos.new ≡
         all_bound_where_deep (map (λ p. p.function) entry_points.now) infos.old) }
+    ensures unchanged { IfOk result (λ raises. IsFalse raises → infos.new ≡ infos.old) }
     ensures raised { AllRaised infos.old infos.new }
 {
+    let mut raises = false;
     for (index, entry_point) in entry_points.iter().enumerate() {
-        bind_at(alloc, infos, index, &entry_point.function)?;
+        raises |= bind_at(alloc, infos, index, &entry_point.function)?;
     }
-    Ok(())
+    Ok(raises)
 }
 
 /// Raises the count of each expression that would stand deeper in a text than on the last level
@@ -205,24 +225,33 @@ fn bind_in_entry_points(
 /// So a sum of 300 terms that is emitted gets four `let`s.
 ///
 /// It is called after [`count`](naga_acceptance::count), which makes counts anew, and before a module
-/// is written. A count that a `let` follows from anyway stays as it is, and so does that of an access,
-/// which no count binds: accesses in accesses may stand deeper, and so may constants that no `Emit`
+/// is written. A count of two or more stays as it is, and so does that of an access, which no count
+/// binds: accesses in accesses may stand deeper, and so may constants that no `Emit`
 /// gives, and the module's own expressions. No count gets less, nothing else changes, and a module
 /// that was accepted before is accepted after.
 ///
-/// An `Err` says that memory was refused. Some counts are raised then, and a further call goes on.
+/// `false` says that nothing stands too deep, so no count is another. An `Err` says that memory was
+/// refused. Some counts are raised then, and a further call goes on.
+///
+/// A `let` can stand where a use of its name is out of scope, though the expression itself could be
+/// written there: behind a `continue`, of an operand that the `continuing` block uses. So where a writer
+/// refuses the module with raised counts, it is to be asked once more with the counts as they were:
 ///
 /// ```text
 /// count(&mut shader.info, &shader.module);
-/// bind_deep_operands(alloc, &mut shader.info, &shader.module)?;
-/// let text = write_string(alloc, &shader.module, &shader.info, no_flags())?;
+/// if bind_deep_operands(alloc, &mut shader.info, &shader.module)?
+///     && unwritable(alloc, &shader.module, &shader.info, flags)?.is_some()
+/// {
+///     count(&mut shader.info, &shader.module);
+/// }
+/// let text = write_string(alloc, &shader.module, &shader.info, flags)?;
 /// ```
 #[tactic(auto, using(crate::proofs::Shallow::all_shallow, crate::proofs::Accepted::still_accepted))]
 pub fn bind_deep_operands(
     alloc: Global,
     info: &mut ModuleInfo,
     module: &Module,
-) -> Result<(), AllocError>
+) -> Result<bool, AllocError>
     ensures functions { OnOk result (info.new.functions.items ≡
         all_bound_where_deep «module».now.functions info.old.functions.items) }
     ensures entry_points { OnOk result (info.new.entry_points.items ≡
@@ -234,14 +263,18 @@ pub fn bind_deep_operands(
         info.new.entry_points.items) }
     ensures raised { AllRaised info.old.functions.items info.new.functions.items
         × AllRaised info.old.entry_points.items info.new.entry_points.items }
+    ensures unchanged { IfOk result (λ raises. IsFalse raises →
+        (info.new.functions.items ≡ info.old.functions.items)
+        × (info.new.entry_points.items ≡ info.old.entry_points.items)) }
     ensures types { info.new.const_expression_types ≡ info.old.const_expression_types }
     ensures accepted { IsTrue (is_accepted «module».now info.old) →
         IsTrue (is_accepted «module».now info.new) }
 {
-    bind_in_functions(alloc, info.functions.as_mut_slice(), &module.functions)?;
-    bind_in_entry_points(
+    let in_functions = bind_in_functions(alloc, info.functions.as_mut_slice(), &module.functions)?;
+    let in_entry_points = bind_in_entry_points(
         alloc,
         info.entry_points.as_mut_slice(),
         &module.entry_points,
-    )
+    )?;
+    Ok(in_functions | in_entry_points)
 }

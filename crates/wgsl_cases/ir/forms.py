@@ -21,11 +21,11 @@ class Told(NamedTuple):
 
 class Chance(random.Random):
     """Chance, with what forms share: how long lists may be, how often a member is left out that may be, how deep blocks
-    nest, and which variants were told how often."""
+    nest, how many items a list that grows has, and which variants were told how often."""
 
     def __init__(self, seed, most=20, absent=0.1):
         super().__init__(seed)
-        self.most, self.absent, self.depth, self.told = most, absent, 0, Counter()
+        self.most, self.absent, self.depth, self.earlier, self.told = most, absent, 0, 0, Counter()
 
     def often(self, share):
         return self.random() < share
@@ -38,6 +38,9 @@ class Form:
 
     def tell(self, r):
         raise NotImplementedError
+
+    def leave_out(self, r):
+        """What is so where the member is left out."""
 
 
 class Number(Form):
@@ -96,7 +99,11 @@ class Handle(Form):
 
     def tell(self, r):
         index = r.choice([0, 1, r.randrange(20), r.randrange(20), 4294967294])
-        return Told(str(index), f"ItemIndex {{ index: {index}, mark: PhantomData<_> }}")
+        return Told(str(index), self.shown(index))
+
+    @staticmethod
+    def shown(index):
+        return f"ItemIndex {{ index: {index}, mark: PhantomData<_> }}"
 
 
 class Maybe(Form):
@@ -160,6 +167,33 @@ class NoneTold(Maybe):
 
     def tell(self, r):
         return Told(r.choice(["null", self.nulls]), self.absent)
+
+
+class Growing(Listed):
+    """A list whose items name earlier ones, by `Earlier`, as what stands after it does."""
+
+    def items(self, r):
+        r.earlier, items = 0, []
+        for _ in range(r.randint(0, min(self.most, r.most))):
+            items.append(self.form.tell(r))
+            r.earlier += 1
+        return items
+
+    def leave_out(self, r):
+        r.earlier = 0
+
+
+class Earlier(Maybe):
+    """The handle of an earlier item of a list that grows, or of any after it, or null."""
+
+    def __init__(self):
+        super().__init__(Handle())
+
+    def tell(self, r):
+        if r.earlier == 0 or r.often(0.4):
+            return Told("null", "None")
+        index = r.randrange(r.earlier)
+        return Told(str(index), f"Some({Handle.shown(index)})")
 
 
 class Distinct(Listed):
@@ -337,21 +371,23 @@ class Struct(Form):
     """An object with these members. Some that may be absent are, and some are there that the reader lets be: the
     others, with any value, and those that say nothing, with null."""
 
-    def __init__(self, name, *members, others=(), nulls=()):
-        # each member by its name in JSON, its form, and its name in Rust where that is another
+    def __init__(self, name, *members, others=(), nulls=(), unread=()):
+        # each member by its name in JSON, its form, and its name in Rust where that is another; fields that no JSON
+        # tells are unread, as `Debug` has them
         self.name, self.members = name, [member_of(*each) for each in members]
-        self.others, self.nulls = others, nulls
+        self.others, self.nulls, self.unread = others, nulls, unread
         EVERY.add(name)
 
     def tell(self, r):
         r.told[self.name] += 1
         told = [(member, self.member(member, r)) for member in self.members]
-        shown = ", ".join(f"{member.shown}: {value.debug}" for member, value in told)
+        shown = ", ".join([*(f"{member.shown}: {value.debug}" for member, value in told), *self.unread])
         return Told(self.object(r, told), f"{self.name} {{ {shown} }}" if told else self.name)
 
     @staticmethod
     def member(member, r):
         if member.form.absent is not None and r.often(r.absent):
+            member.form.leave_out(r)
             return Told(None, member.form.absent)
         return member.form.tell(r)
 

@@ -6,8 +6,8 @@ names from here (`../runs/module_forms.py`, `bench/fuzz`). The names in Rust dif
 """
 
 from forms import (
-    Bare, Double, Enum, Fixed, Flags, Form, Half, Listed, Maybe, Needed, NoneTold, Number, Numbered, Paired, Handle,
-    Short, Shown, Single, Struct, Text, Truth, arena, unique_arena)
+    Bare, Double, Earlier, Enum, Fixed, Flags, Form, Growing, Half, Listed, Maybe, Needed, NoneTold, Number, Numbered,
+    Paired, Handle, Short, Shown, Single, Struct, Text, Truth, arena, unique_arena)
 
 
 def words(text):
@@ -215,7 +215,7 @@ RESULT = Struct("FunctionResult", ("ty", HANDLE), ("binding", Maybe(BINDING)))
 FUNCTION = Struct(
     "Function", ("name", NAME), ("arguments", Listed(ARGUMENT)), ("result", Maybe(RESULT)),
     ("local_variables", arena(LOCAL_VARIABLE)), ("expressions", arena(EXPRESSION, 12)),
-    ("named_expressions", Numbered(Text())), ("body", BLOCK), others=("diagnostic_filter_leaf",))
+    ("named_expressions", Numbered(Text())), ("body", BLOCK), nulls=("diagnostic_filter_leaf",))
 STAGE = Enum("ShaderStage", *words("Vertex Task Mesh Fragment Compute RayGeneration Miss AnyHit ClosestHit"))
 MESH_INFO = Struct(
     "MeshStageInfo", ("output_variable", HANDLE),
@@ -233,12 +233,18 @@ SPECIAL_TYPES = Struct(
 SPECIAL_TYPES.absent = (
     "SpecialTypes { predeclared_types: {}, external_texture_params: None, external_texture_transfer_function: None, "
     "ray_desc: None, ray_intersection: None, ray_vertex_return: None }")
+SEVERITY = Enum("Severity", *words("Off Info Warning Error"))
+STANDARD_RULE = Enum("StandardFilterableTriggeringRule", "DerivativeUniformity")
+RULE = Enum("FilterableTriggeringRule", ("Standard", STANDARD_RULE), ("Unknown", Text()), ("User", Fixed(Text(), 2)))
+FILTER = Struct("DiagnosticFilter", ("new_severity", SEVERITY), ("triggering_rule", RULE))
+FILTER_NODE = Struct("DiagnosticFilterNode", ("inner", FILTER), ("parent", Earlier()))
 MODULE = Struct(
     "Module", ("types", unique_arena(TYPE)), ("special_types", SPECIAL_TYPES), ("constants", arena(CONSTANT)),
     ("overrides", arena(OVERRIDE)), ("global_variables", arena(GLOBAL_VARIABLE)),
     ("global_expressions", arena(EXPRESSION, 8)), ("functions", arena(FUNCTION, 2)),
     ("entry_points", Listed(ENTRY_POINT, most=2)),
-    others=("diagnostic_filters", "diagnostic_filter_leaf", "doc_comments"))
+    ("diagnostic_filters", Growing(FILTER_NODE, "Arena { items: [", "] }")), ("diagnostic_filter_leaf", Earlier()),
+    others=("doc_comments",), unread=("keeps_digits: false",))
 
 # ---- what is known of a module
 RESOLUTION = Enum("TypeResolution", ("Handle", HANDLE), ("Value", TYPE_INNER))

@@ -60,6 +60,9 @@ class Reader:
             if kind == "enable":
                 self.take()
                 self.take(";")
+            elif kind == "diagnostic":
+                while self.take() != ";":
+                    pass
             elif kind in numbers:
                 name, *told = getattr(self, f"read_{kind}")()
                 if name in self.items:

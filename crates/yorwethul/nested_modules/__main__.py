@@ -22,6 +22,8 @@ from concurrent.futures import ThreadPoolExecutor
 from modules import KINDS, blocks, doubled, levels, levels_of_types, nested
 
 MEGABYTE = 1 << 20
+# A stack that holds as many levels as are asked for.
+MUCH = 1 << 31
 WITHOUT_LIMITS = ["--nesting", "4294967295", "--text", "4294967295"]
 # How deep a module may be where no word says it.
 STANDARD = 4_000
@@ -76,7 +78,7 @@ def is_refused(way, line, status, out, err):
         reason = line.removeprefix("refused: ").rstrip()
         told = json.loads(out) if out.endswith("\n") else None
         return (status, err) == (0, "") and told and told.pop("text") is not None and told == {"refused": reason}
-    return (status, out, err) == (1, "", line)
+    return (status, out, err) == (1, "", f"standard input: {line}")
 
 
 def is_right(kind, depth, way, limit, told):
@@ -123,18 +125,29 @@ def faults(program, words, limit, is_short=False):
             yield f"blocks, {depth} deep: {short(told)}"
 
 
+def stands(program, text, stack, words):
+    """Whether the program answers in so much stack. It allows no more levels than the stack holds that it begins with, so
+    that is much, and made less as soon as it has told how many those are."""
+    hard = resource.getrlimit(resource.RLIMIT_STACK)[1]
+    much = lambda: resource.setrlimit(resource.RLIMIT_STACK, (MUCH, hard))
+    with subprocess.Popen([program, *words, *WITHOUT_LIMITS], stdin=subprocess.PIPE, stdout=subprocess.DEVNULL,
+                          stderr=subprocess.PIPE, preexec_fn=much) as child:
+        child.stderr.readline()
+        resource.prlimit(child.pid, resource.RLIMIT_STACK, (stack, hard))
+        child.communicate(text.encode())
+    return child.returncode >= 0
+
+
 def deepest(program, kind, stack, words):
     """How deep the deepest module of the kind is that the program answers in so much stack."""
-    def stands(depth):
-        return run(program, nested(kind, depth), stack, *words, *WITHOUT_LIMITS)[0] >= 0
     low, high = 2, 4
-    while stands(high):
+    while stands(program, nested(kind, high), stack, words):
         low, high = high, 2 * high
-        if high > 1 << 20:
+        if high > MUCH // 4_096:
             return None
     while high - low > low // 64:
         middle = (low + high) // 2
-        low, high = (middle, high) if stands(middle) else (low, middle)
+        low, high = (middle, high) if stands(program, nested(kind, middle), stack, words) else (low, middle)
     return low
 
 

@@ -1,8 +1,11 @@
 //! Why a module has no text, with the lines around its position.
 
+use crate::answer::Answer;
 use crate::texts::write_in;
 use crate::untyped::types_before;
-use module_answers::{NoOutcome, Shader, Unasked, WriteOutcome, refusal_line, untyped_line};
+use module_answers::{
+    NoOutcome, Shader, Unasked, WriteOutcome, refusal_line, rule_name_line, untyped_line,
+};
 use module_positions::{
     JsonHolder, MarkedRoot, fault_text, labelled_position, listed_position, refused_position,
     root_at, root_spots,
@@ -15,28 +18,26 @@ use naga_wgsl_out::wgsl::Refusal;
 use naga_wgsl_shared::Error;
 use std::alloc::{AllocError, Global};
 use yorwethul_input::Style;
-
-/// What is told of a module.
-#[derive(Drop)]
-pub struct Explanation {
-    /// Why it has no text, or that it has one, with the lines around the position.
-    pub text: String,
-    /// Whether it has one.
-    pub is_written: bool,
-}
+use yorwethul_progress::Outcome;
 
 /// Tells why a module has no text in this style, if it has none.
-pub fn explained(
-    alloc: Global,
-    style: Style,
-    shader: &mut Shader,
-) -> Result<Explanation, AllocError> {
+pub fn explained(alloc: Global, style: Style, shader: &mut Shader) -> Result<Answer, AllocError> {
     match write_in(alloc, style, shader) {
         Ok(written) => of_written(alloc, shader, written),
-        Err(NoOutcome::NotAccepted(fault)) => of_unaccepted(alloc, shader, fault),
-        Err(NoOutcome::TooLong) => {
-            not_written(format!(in alloc; "refused: {}\n", NoOutcome::TooLong))
+        Err(reason) => of_unwritten(alloc, shader, &reason),
+    }
+}
+
+/// Tells why the writer was not asked for a module, or was stopped at it.
+fn of_unwritten(alloc: Global, shader: &Shader, reason: &NoOutcome) -> Result<Answer, AllocError> {
+    match reason {
+        NoOutcome::NotAccepted(fault) => of_unaccepted(alloc, shader, *fault),
+        NoOutcome::TooLong => { refused(format!(in alloc; "refused: {}\n", NoOutcome::TooLong)) }
+        NoOutcome::RuleName(filter) => {
+            let line = rule_name_line(alloc, *filter, shader.holder)?;
+            refused(format!(in alloc; "refused: {line}\n"))
         }
+        NoOutcome::Memory(_) => Err(AllocError),
     }
 }
 
@@ -46,9 +47,9 @@ pub fn unasked_explained(
     module: &Module,
     unasked: Unasked,
     holder: JsonHolder,
-) -> Result<Explanation, AllocError> {
+) -> Result<Answer, AllocError> {
     match unasked {
-        Unasked::TooDeep(nested) => not_written(format!(in alloc; "refused: {nested}\n")),
+        Unasked::TooDeep(nested) => refused(format!(in alloc; "refused: {nested}\n")),
         Unasked::Untyped(untyped) => of_untyped(alloc, module, untyped, holder),
         Unasked::Memory(error) => Err(error),
     }
@@ -60,39 +61,39 @@ fn of_untyped(
     module: &Module,
     untyped: Untyped,
     holder: JsonHolder,
-) -> Result<Explanation, AllocError> {
+) -> Result<Answer, AllocError> {
     let line = untyped_line(alloc, module, untyped, holder)?;
     let item = listed_position(untyped.position);
     let info = types_before(alloc, module, untyped.position)?;
     let message = format!(in alloc; "{}", untyped.missing)?;
     let listing = explain(alloc, module, &info, &item, message.as_str())?;
-    not_written(format!(in alloc; "not accepted: {line}\n\n{listing}"))
+    not_accepted(format!(in alloc; "not accepted: {line}\n\n{listing}"))
 }
 
 fn of_written(
     alloc: Global,
     shader: &Shader,
     written: WriteOutcome<String>,
-) -> Result<Explanation, AllocError> {
+) -> Result<Answer, AllocError> {
     let WriteOutcome {
         answer,
         refusal,
         sink: _,
     } = written;
     match (answer, refusal) {
-        (Ok(()), _) => Ok(Explanation {
-            text: String::from_str(alloc, "written\n")?,
-            is_written: true,
-        }),
+        (Ok(()), _) => {
+            let text = String::from_str(alloc, "written\n")?;
+            Ok(Answer::Printed(text, Outcome::Written))
+        }
         (Err(Error::Memory(error)), _) => Err(error),
         (Err(_), Some(refusal)) => of_refusal(alloc, shader, refusal),
-        (Err(reason), None) => not_written(format!(in alloc; "refused: {reason}\n")),
+        (Err(reason), None) => refused(format!(in alloc; "refused: {reason}\n")),
     }
 }
 
 /// Tells what a module is refused for and where, and shows the lines around: of an operand that is
 /// out of scope those around the expression that it has no value for.
-fn of_refusal(alloc: Global, shader: &Shader, refusal: Refusal) -> Result<Explanation, AllocError> {
+fn of_refusal(alloc: Global, shader: &Shader, refusal: Refusal) -> Result<Answer, AllocError> {
     let position = refused_position(refusal.position);
     let (spot, message) = match root_at(alloc, &shader.module, &refusal.position)? {
         Some(root) => (
@@ -111,7 +112,7 @@ fn of_refusal(alloc: Global, shader: &Shader, refusal: Refusal) -> Result<Explan
         message.as_str(),
     )?;
     let line = refusal_line(alloc, &shader.module, refusal, shader.holder)?;
-    not_written(format!(in alloc; "refused: {line}\n\n{listing}"))
+    refused(format!(in alloc; "refused: {line}\n\n{listing}"))
 }
 
 /// Tells where a module is not accepted and why, and shows the lines around.
@@ -119,7 +120,7 @@ fn of_unaccepted(
     alloc: Global,
     shader: &Shader,
     unaccepted: Unaccepted,
-) -> Result<Explanation, AllocError> {
+) -> Result<Answer, AllocError> {
     let Shader {
         module,
         info,
@@ -129,12 +130,13 @@ fn of_unaccepted(
     let item = listed_position(unaccepted.item);
     let fault = fault_text(alloc, module, info, unaccepted, *holder)?;
     let listing = explain(alloc, module, info, &item, fault.as_str())?;
-    not_written(format!(in alloc; "not accepted: {position}: {fault}\n\n{listing}"))
+    not_accepted(format!(in alloc; "not accepted: {position}: {fault}\n\n{listing}"))
 }
 
-fn not_written(text: Result<String, AllocError>) -> Result<Explanation, AllocError> {
-    Ok(Explanation {
-        text: text?,
-        is_written: false,
-    })
+fn refused(text: Result<String, AllocError>) -> Result<Answer, AllocError> {
+    Ok(Answer::Printed(text?, Outcome::Refused))
+}
+
+fn not_accepted(text: Result<String, AllocError>) -> Result<Answer, AllocError> {
+    Ok(Answer::Printed(text?, Outcome::NotAccepted))
 }

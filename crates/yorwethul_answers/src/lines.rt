@@ -1,10 +1,16 @@
-//! Many modules: each line of the input is answered by a line of the output.
+//! Answers as JSON, each an object in one line: of many modules, a line for each line of the input, or of
+//! one module.
 
+ghost use Rattle.std.specs.Prelude.{◌≤◌, IfOk};
+
+use crate::answer::Answer;
 use crate::names::names_beside;
 use crate::texts::write_in;
 use fault_details::explain;
 use json::Scratch;
-use module_answers::{NoOutcome, Shader, Unasked, WriteOutcome, holder_of, info_within};
+use module_answers::{
+    NoOutcome, Shader, UNNAMED_RULE, Unasked, WriteOutcome, filter_position, holder_of, info_within,
+};
 use module_limits::Limits;
 use module_positions::{
     JsonHolder, JsonPosition, JsonRefusalPosition, NESTS_TOO_DEEP, label_at, label_of,
@@ -22,7 +28,7 @@ use std::fmt::Display;
 use std::io;
 use std::io::{BufRead, Write};
 use std::rt::Clock;
-use yorwethul_input::{Failure, Style};
+use yorwethul_input::{Failure, Reason, Style};
 use yorwethul_progress::{Outcome, Progress};
 
 /// Answers each line of the input, of the file of this name, by a line of the output: an answer has
@@ -60,16 +66,15 @@ fn answer_line<'a, W: Write>(
     }
 }
 
-fn write_line<W: Write>(text: &str, out: &mut W) -> io::Result<()> {
-    out.write_all(text.as_bytes())?;
-    out.write_all(b"\n")?;
+fn write_line<W: Write>(line: &str, out: &mut W) -> io::Result<()> {
+    out.write_all(line.as_bytes())?;
     out.flush()
 }
 
 /// The members of an answer, in the order of their names.
 type Members = Map<String, Value>;
 
-/// The answer to a line, and what became of its module.
+/// The answer to a line, as a line, and what became of its module.
 fn line_answer(alloc: Global, line: &[u8], style: Style) -> Result<(String, Outcome), AllocError> {
     let mut members = Map::new(alloc);
     let mut scratch = Scratch::new(alloc);
@@ -78,8 +83,34 @@ fn line_answer(alloc: Global, line: &[u8], style: Style) -> Result<(String, Outc
         Err(error) => tell_unread(alloc, line, error, &mut members)?,
     }
     let outcome = outcome_in(&members);
-    let text = Value::Object(members).to_string(alloc)?;
-    Ok((text, outcome))
+    Ok((line_of(alloc, members)?, outcome))
+}
+
+/// The answer to a module that was read from the file of this name, or to one that was not.
+pub fn object_about(
+    alloc: Global,
+    name: &str,
+    read: Result<Given, Failure<'_>>,
+    style: Style,
+) -> Result<Answer, AllocError> {
+    let mut members = Map::new(alloc);
+    match read {
+        Ok(given) => tell_given(alloc, given, style, &mut members)?,
+        Err(failure) if failure.is_about(name) => {
+            tell(alloc, "error", Reason(&failure), &mut members)?;
+        }
+        Err(failure) => tell(alloc, "error", failure, &mut members)?,
+    }
+    tell(alloc, "file", name, &mut members)?;
+    let outcome = outcome_in(&members);
+    Ok(Answer::Printed(line_of(alloc, members)?, outcome))
+}
+
+/// An answer as a line.
+fn line_of(alloc: Global, members: Members) -> Result<String, AllocError> {
+    let mut line = Value::Object(members).to_string(alloc)?;
+    line.push_str("\n")?;
+    Ok(line)
 }
 
 /// What an answer tells of its module.
@@ -153,24 +184,34 @@ fn style_in(query: &json::Value<'_>, style: Style) -> Result<Style, &'static str
     let Some(names) = truth_in(query, "names", style.names) else {
         return Err("names: no truth value");
     };
-    let limits = limits_in(query, style.limits)?;
+    let limits = limits_in(query, style.limits, style.deepest)?;
     Ok(Style {
         explicit_types,
         plain,
         names,
         limits,
+        ..style
     })
 }
 
-/// The limits that are asked for.
-fn limits_in(query: &json::Value<'_>, limits: Limits) -> Result<Limits, &'static str> {
+/// The limits that are asked for, by which no module may be nested deeper than so.
+fn limits_in(
+    query: &json::Value<'_>,
+    limits: Limits,
+    deepest: usize,
+) -> Result<Limits, &'static str>
+    ensures { IfOk result (λ asked. asked.nesting ≤ deepest) }
+{
     let Some(nesting) = number_in(query, "nesting", limits.nesting) else {
         return Err("nesting: no number of 32 bits");
     };
     let Some(text) = number_in(query, "text", limits.text) else {
         return Err("text: no number of 32 bits");
     };
-    Ok(Limits { nesting, text })
+    Ok(Limits {
+        nesting: nesting.min(deepest),
+        text,
+    })
 }
 
 /// The number that a member has, or this one where there is no such member.
@@ -239,10 +280,31 @@ fn tell_shader(
 ) -> Result<(), AllocError> {
     match write_in(alloc, style, shader) {
         Ok(written) => tell_written(alloc, written, shader, members),
-        Err(NoOutcome::NotAccepted(unaccepted)) => {
-            tell_unaccepted(alloc, shader, unaccepted, members)
+        Err(reason) => tell_unwritten(alloc, &reason, shader, members),
+    }
+}
+
+/// Tells why the writer was not asked for a module, or was stopped at it.
+fn tell_unwritten(
+    alloc: Global,
+    reason: &NoOutcome,
+    shader: &Shader,
+    members: &mut Members,
+) -> Result<(), AllocError> {
+    match reason {
+        NoOutcome::NotAccepted(unaccepted) => {
+            tell_unaccepted(alloc, shader, *unaccepted, members)
         }
-        Err(NoOutcome::TooLong) => tell_limited(alloc, NoOutcome::TooLong, members),
+        NoOutcome::TooLong => {
+            let reason = format!(in alloc; "{}", NoOutcome::TooLong)?;
+            tell_limited(alloc, reason, members)
+        }
+        NoOutcome::RuleName(filter) => {
+            let position = filter_position(alloc, *filter, shader.holder)?;
+            tell(alloc, "position", position, members)?;
+            tell_limited(alloc, UNNAMED_RULE, members)
+        }
+        NoOutcome::Memory(_) => Err(AllocError),
     }
 }
 
@@ -281,7 +343,8 @@ fn tell_unasked(
     }
 }
 
-/// Tells that the module is past a limit: at no position, and with no text in front of it.
+/// Tells that the module is refused before anything of its text: past a limit, at no position, or for a
+/// filter of diagnostics.
 fn tell_limited(
     alloc: Global,
     reason: impl Display + Drop,

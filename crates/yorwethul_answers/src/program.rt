@@ -1,32 +1,31 @@
-//! The program: its answers and its statuses.
+//! The program: what it answers, where that goes, and its status.
 
-use crate::explanation::{Explanation, explained, unasked_explained};
-use crate::lines::answer_lines;
-use crate::names::names_line;
-use crate::texts::write_in;
-use module_answers::{
-    NoOutcome, Shader, Unasked, WriteOutcome, holder_of, info_within, layout_table, refusal_line,
-    untyped_line,
-};
-use module_positions::{JsonHolder, fault_line};
-use naga_acceptance::{Unaccepted, unaccepted};
-use naga_ir::Module;
-use naga_json::Given;
-use naga_wgsl_shared::Error;
-use std::alloc::{AllocError, Global};
+use crate::answer::{Answer, answer_to};
+use crate::ending::{FAILED, status_of, status_of_both};
+use crate::files::{write_and_flush, write_file};
+use crate::lines::{answer_lines, object_about};
+use crate::made::made_text;
+use crate::outputs::{Outputs, output_of, outputs_of};
+use clap::error::ErrorKind;
+use std::alloc::Global;
 use std::fmt::Display;
 use std::io::{BufReader, Read, Write};
 use std::rt::{Clock, Files};
-use std::{fs, io};
-use yorwethul_input::{Failure, Invocation, Style, Task, given_by, invocation_of};
+use std::{fmt, fs, io};
+use yorwethul_input::{
+    Failure, Invocation, NESTING, Source, Style, Task, given_by, invocation_of, levels_within,
+    title,
+};
 use yorwethul_progress::Progress;
 
-/// The status where a module is refused or not accepted.
-pub const REFUSED: u8 = 1;
-
-/// The status where an option is wrong, the input is no module, or something cannot be read or
-/// written.
-pub const FAILED: u8 = 2;
+/// Who is at the ends of the program's streams.
+#[derive(Clone, Copy, Debug, PartialEq, Eq)]
+pub struct Terminals {
+    /// Whether the standard input is a terminal, at which someone may wonder what is read.
+    pub asks: bool,
+    /// Whether someone watches the error output while the output goes elsewhere.
+    pub watches: bool,
+}
 
 /// Does what the words ask for, of which the first is the program's name, and gives the status.
 /// What is told of a failure or a refusal goes to `err`, and so does, where someone watches it, how
@@ -36,319 +35,325 @@ pub fn run<R: Files + Input + Clock + AllocGlobal, O: Write, E: Write>(
     words: &[String],
     out: &mut O,
     err: &mut E,
-    is_watched: bool,
+    terminals: Terminals,
 ) -> u8 {
     match invocation_of(rt.alloc(), words) {
-        Ok(invocation) => serve(rt, invocation, out, err, is_watched),
-        Err(error) => tell_words(error, out, err),
+        Ok(invocation) => {
+            let invocation = fitted(rt, invocation, err);
+            if terminals.asks && reads_input(&invocation) {
+                let what = wanted_by(&invocation);
+                let _ = writeln!(err, "yorwethul: reading {what}{AT_A_TERMINAL}");
+            }
+            match serve(rt, &invocation, out, err, terminals.watches) {
+                Ok(status) => status,
+                Err(failure) => fail(failure, err),
+            }
+        }
+        Err(error) => tell_words(rt, error, out, err),
     }
 }
 
+/// What is told where something is read from a terminal.
+const AT_A_TERMINAL: &str = " from the terminal, to its end by Ctrl-D; --help tells more";
+
+/// What is read from the standard input, where something is.
+fn wanted_by(invocation: &Invocation<'_>) -> &'static str {
+    if invocation.task == Task::Lines {
+        "modules as JSON, one a line,"
+    } else if invocation.info == Some("-") {
+        "what is known of a module, as JSON,"
+    } else {
+        "a module as JSON"
+    }
+}
+
+/// Whether something is read from the standard input.
+fn reads_input(invocation: &Invocation<'_>) -> bool {
+    invocation.info == Some("-") || invocation.modules.contains(&"-")
+}
+
+/// The invocation with no more levels than the stack holds, unless they are no more than without an
+/// option; lines may ask for no more either. It tells where that is less than was asked for.
+fn fitted<'a, R: Files + AllocGlobal, E: Write>(
+    rt: &R,
+    mut invocation: Invocation<'a>,
+    err: &mut E,
+) -> Invocation<'a> {
+    let asked = invocation.style.limits.nesting;
+    if asked > NESTING || invocation.task == Task::Lines {
+        if let Some(levels) = levels_within(rt) {
+            let levels = levels.max(NESTING);
+            invocation.style.deepest = levels;
+            if levels < asked {
+                let _ = writeln!(
+                    err,
+                    "yorwethul: --nesting {asked}: the stack holds {levels} levels, and ulimit -s gives more"
+                );
+                invocation.style.limits.nesting = levels;
+            }
+        }
+    }
+    invocation
+}
+
 /// Tells what is wrong with the words, or the help or the version where they ask for it.
-fn tell_words<O: Write, E: Write>(error: clap::Error, out: &mut O, err: &mut E) -> u8 {
+fn tell_words<R: Files + AllocGlobal, O: Write, E: Write>(
+    rt: &R,
+    error: clap::Error,
+    out: &mut O,
+    err: &mut E,
+) -> u8 {
     if error.use_stderr() {
         let _ = write!(err, "{error}");
         FAILED
     } else {
-        print(error, out, err)
+        match print_asked(rt, error, out) {
+            Ok(()) => 0,
+            Err(failure) => fail(failure, err),
+        }
     }
 }
 
-fn serve<R: Files + Input + Clock + AllocGlobal, O: Write, E: Write>(
+/// Prints the help, or the version, and how the program was made.
+fn print_asked<'a, R: Files + AllocGlobal, O: Write>(
     rt: &R,
-    invocation: Invocation<'_>,
+    asked: clap::Error,
+    out: &mut O,
+) -> Result<(), Failure<'a>> {
+    if asked.kind() != ErrorKind::DisplayVersion {
+        return print(asked, out);
+    }
+    match made_text(rt) {
+        Ok(made) => print(Version { asked, made }, out),
+        Err(_) => Err(Failure::Memory),
+    }
+}
+
+/// The version of the program, of naga, whose modules it reads, and how the program was made.
+#[derive(Drop)]
+struct Version {
+    asked: clap::Error,
+    made: String,
+}
+
+impl fmt::Display for Version {
+    fn fmt<W: fmt::Write>(&self, f: &mut fmt::Formatter<W>) -> fmt::Result {
+        write!(f, "{}modules: naga 30\n{}", self.asked, self.made)
+    }
+}
+
+fn serve<'a, R: Files + Input + Clock + AllocGlobal, O: Write, E: Write>(
+    rt: &R,
+    invocation: &Invocation<'a>,
     out: &mut O,
     err: &mut E,
     is_watched: bool,
-) -> u8 {
+) -> Result<u8, Failure<'a>> {
+    let outputs = outputs_of(rt, invocation)?;
     match invocation.task {
-        Task::Lines => serve_lines(rt, invocation, out, err, is_watched),
-        _ => serve_module(rt, invocation, out, err),
+        Task::Lines => serve_lines(rt, invocation, outputs, out, err, is_watched),
+        _ => serve_modules(rt, invocation, outputs, out, err),
     }
 }
 
-fn serve_lines<R: Files + Input + Clock + AllocGlobal, O: Write, E: Write>(
+fn serve_modules<'a, R: Files + Input + AllocGlobal, O: Write, E: Write>(
     rt: &R,
-    invocation: Invocation<'_>,
+    invocation: &Invocation<'a>,
+    outputs: Outputs<'a>,
+    out: &mut O,
+    err: &mut E,
+) -> Result<u8, Failure<'a>> {
+    let mut status = 0;
+    for module in invocation.modules.iter() {
+        let source = Source {
+            module: *module,
+            info: invocation.info,
+        };
+        status = status_of_both(
+            status,
+            serve_module(rt, invocation, outputs, source, out, err)?,
+        );
+    }
+    Ok(status)
+}
+
+/// Answers one of the modules. An error ends the run.
+fn serve_module<'a, R: Files + Input + AllocGlobal, O: Write, E: Write>(
+    rt: &R,
+    invocation: &Invocation<'a>,
+    outputs: Outputs<'a>,
+    source: Source<'a>,
+    out: &mut O,
+    err: &mut E,
+) -> Result<u8, Failure<'a>> {
+    match answer_about(rt, invocation, source) {
+        Ok(Answer::Printed(text, outcome)) => {
+            let text = behind_its_name(invocation, outputs, source.module, text);
+            let Ok(output) = output_of(rt.alloc(), outputs, source.module, invocation.task) else {
+                return Err(Failure::Memory);
+            };
+            put(rt, output, text, status_of(outcome), out, err)
+        }
+        Ok(Answer::Told(line, outcome)) => {
+            let _ = writeln!(err, "{}: {line}", title(source.module));
+            Ok(status_of(outcome))
+        }
+        Err(Failure::Memory) => Err(Failure::Memory),
+        Err(failure) => Ok(fail(failure, err)),
+    }
+}
+
+/// What is answered about one of the modules.
+fn answer_about<'a, R: Files + Input + AllocGlobal>(
+    rt: &R,
+    invocation: &Invocation<'a>,
+    source: Source<'a>,
+) -> Result<Answer, Failure<'a>> {
+    let read = given_by(rt, source);
+    let answered = match invocation.task {
+        Task::Json => object_about(rt.alloc(), source.module, read, invocation.style),
+        task => answer_to(rt.alloc(), task, invocation.style, read?),
+    };
+    match answered {
+        Ok(answer) => Ok(answer),
+        Err(_) => Err(Failure::Memory),
+    }
+}
+
+/// A text behind the name of its module, where that is to be told.
+#[derive(Drop)]
+struct Headed<'a> {
+    name: &'a str,
+    between: &'static str,
+    text: String,
+}
+
+impl fmt::Display for Headed<'_> {
+    fn fmt<W: fmt::Write>(&self, f: &mut fmt::Formatter<W>) -> fmt::Result {
+        f.write_str(self.name)?;
+        f.write_str(self.between)?;
+        f.write_str(self.text.as_str())
+    }
+}
+
+/// What is printed about a module: behind its name where what is printed about several goes to one
+/// output and would not say which of them it is about.
+fn behind_its_name<'a>(
+    invocation: &Invocation<'_>,
+    outputs: Outputs<'_>,
+    module: &'a str,
+    text: String,
+) -> Headed<'a> {
+    let is_one = invocation.modules.len() < 2 || outputs != Outputs::Standard;
+    let between = match invocation.task {
+        _ if is_one => "",
+        Task::Check | Task::Explain => ": ",
+        Task::Layout => ":\n",
+        _ => "",
+    };
+    let name = if between.is_empty() {
+        ""
+    } else {
+        title(module)
+    };
+    Headed {
+        name,
+        between,
+        text,
+    }
+}
+
+/// Puts a text into the file of this name, or the standard output, and gives the status that this is
+/// to have, or that of a failure to write a file. An error ends the run.
+fn put<'a, R: Files + AllocGlobal, O: Write, E: Write>(
+    rt: &R,
+    output: Option<String>,
+    text: Headed<'_>,
+    status: u8,
+    out: &mut O,
+    err: &mut E,
+) -> Result<u8, Failure<'a>> {
+    let Some(name) = output else {
+        print(text, out)?;
+        return Ok(status);
+    };
+    match write_file(rt, name.as_str(), text) {
+        Ok(()) => Ok(status),
+        Err(error) => Ok(fail(Failure::File(name, error), err)),
+    }
+}
+
+fn print<'a, O: Write>(text: impl Display + Drop, out: &mut O) -> Result<(), Failure<'a>> {
+    match write_and_flush(text, out) {
+        Ok(()) => Ok(()),
+        Err(error) => Err(Failure::Output(error)),
+    }
+}
+
+/// Answers the lines of the file that is named.
+fn serve_lines<'a, R: Files + Input + Clock + AllocGlobal, O: Write, E: Write>(
+    rt: &R,
+    invocation: &Invocation<'a>,
+    outputs: Outputs<'a>,
     out: &mut O,
     err: &mut E,
     is_watched: bool,
-) -> u8 {
-    let done = watch_lines(rt, invocation, out, err, is_watched);
-    match done {
-        Ok(()) => 0,
-        Err(failure) => fail(failure, err),
+) -> Result<u8, Failure<'a>> {
+    for name in invocation.modules.iter() {
+        let Ok(output) = output_of(rt.alloc(), outputs, *name, Task::Lines) else {
+            return Err(Failure::Memory);
+        };
+        let mut progress = Progress::new(rt, err, is_watched);
+        let done = watch_lines(rt, *name, invocation.style, output, out, &mut progress);
+        progress.finish();
+        done?;
     }
+    Ok(0)
 }
 
-fn serve_module<R: Files + Input + AllocGlobal, O: Write, E: Write>(
-    rt: &R,
-    invocation: Invocation<'_>,
-    out: &mut O,
-    err: &mut E,
-) -> u8 {
-    match given_by(rt, invocation) {
-        Ok(given) => answer_given(rt.alloc(), invocation, given, out, err),
-        Err(failure) => fail(failure, err),
-    }
-}
-
-/// Answers the lines of the input, and tells how far it has come.
+/// Answers the lines of the input of this name, and tells how far it has come.
 fn watch_lines<'a, R: Files + Input + Clock + AllocGlobal, O: Write, E: Write>(
     rt: &R,
-    invocation: Invocation<'a>,
-    out: &mut O,
-    err: &mut E,
-    is_watched: bool,
-) -> Result<(), Failure<'a>> {
-    let mut progress = Progress::new(rt, err, is_watched);
-    let done = if invocation.module == "-" {
-        read_lines(rt.alloc(), invocation, Ok(rt.reader()), out, &mut progress)
-    } else {
-        let input = fs::open(rt, invocation.module);
-        read_lines(rt.alloc(), invocation, input, out, &mut progress)
-    };
-    progress.finish();
-    done
-}
-
-/// Answers the lines of an input, where it could be opened.
-fn read_lines<'a, I: Read + Drop, O: Write, R: Clock, E: Write>(
-    alloc: Global,
-    invocation: Invocation<'a>,
-    input: io::Result<I>,
+    name: &'a str,
+    style: Style,
+    output: Option<String>,
     out: &mut O,
     progress: &mut Progress<'_, R, E>,
 ) -> Result<(), Failure<'a>> {
-    let name = invocation.module;
-    match buffered(alloc, input) {
-        Ok(input) => answer_lines(alloc, name, input, invocation.style, out, progress),
-        Err(error) => Err(Failure::Input(name, error)),
+    if name == "-" {
+        read_lines(rt, name, Ok(rt.reader()), style, output, out, progress)
+    } else {
+        read_lines(rt, name, fs::open(rt, name), style, output, out, progress)
+    }
+}
+
+/// Answers the lines of an input, where it could be opened.
+fn read_lines<'a, I: Read + Drop, O: Write, R: Files + Clock + AllocGlobal, E: Write>(
+    rt: &R,
+    name: &'a str,
+    input: io::Result<I>,
+    style: Style,
+    output: Option<String>,
+    out: &mut O,
+    progress: &mut Progress<'_, R, E>,
+) -> Result<(), Failure<'a>> {
+    match (buffered(rt.alloc(), input), output) {
+        (Ok(input), None) => answer_lines(rt.alloc(), name, input, style, out, progress),
+        (Ok(input), Some(output)) => match fs::create(rt, output.as_str()) {
+            Ok(mut file) => {
+                match answer_lines(rt.alloc(), name, input, style, &mut file, progress) {
+                    Err(Failure::Output(error)) => Err(Failure::File(output, error)),
+                    done => done,
+                }
+            }
+            Err(error) => Err(Failure::File(output, error)),
+        },
+        (Err(error), _) => Err(Failure::Input(name, error)),
     }
 }
 
 fn buffered<I: Read + Drop>(alloc: Global, input: io::Result<I>) -> io::Result<BufReader<I>> {
     BufReader::new(alloc, input?)
-}
-
-/// Answers what the invocation wants to know of a module as it was given.
-fn answer_given<O: Write, E: Write>(
-    alloc: Global,
-    invocation: Invocation<'_>,
-    given: Given,
-    out: &mut O,
-    err: &mut E,
-) -> u8 {
-    let Given {
-        module,
-        info,
-        is_bare,
-    } = given;
-    let holder = holder_of(is_bare);
-    match info_within(alloc, &module, info, invocation.style.limits.nesting) {
-        Ok(info) => {
-            let mut shader = Shader {
-                module,
-                info,
-                holder,
-            };
-            answer(alloc, invocation, &mut shader, out, err)
-        }
-        Err(unasked) => answer_unasked(alloc, invocation.task, &module, unasked, holder, out, err),
-    }
-}
-
-/// Prints what the invocation wants to know of a module.
-fn answer<O: Write, E: Write>(
-    alloc: Global,
-    invocation: Invocation<'_>,
-    shader: &mut Shader,
-    out: &mut O,
-    err: &mut E,
-) -> u8 {
-    match invocation.task {
-        Task::Check => check(alloc, shader, out, err),
-        Task::Layout => tell_layouts(alloc, shader, out, err),
-        Task::Names => tell_names(alloc, invocation.style, shader, out, err),
-        Task::Explain => explain(explained(alloc, invocation.style, shader), out, err),
-        Task::Write | Task::Lines => print_text(alloc, invocation.style, shader, out, err),
-    }
-}
-
-/// Tells why nothing more is asked of a module.
-fn answer_unasked<O: Write, E: Write>(
-    alloc: Global,
-    task: Task,
-    module: &Module,
-    unasked: Unasked,
-    holder: JsonHolder,
-    out: &mut O,
-    err: &mut E,
-) -> u8 {
-    match task {
-        Task::Explain => explain(unasked_explained(alloc, module, unasked, holder), out, err),
-        _ => tell_unasked(alloc, module, unasked, holder, err),
-    }
-}
-
-/// Prints the module's text.
-fn print_text<O: Write, E: Write>(
-    alloc: Global,
-    style: Style,
-    shader: &mut Shader,
-    out: &mut O,
-    err: &mut E,
-) -> u8 {
-    match write_in(alloc, style, shader) {
-        Ok(written) => print_written(alloc, written, shader, out, err),
-        Err(NoOutcome::NotAccepted(fault)) => refuse_unaccepted(alloc, shader, fault, err),
-        Err(NoOutcome::TooLong) => refuse(NoOutcome::TooLong, err),
-    }
-}
-
-fn check<O: Write, E: Write>(alloc: Global, shader: &Shader, out: &mut O, err: &mut E) -> u8 {
-    match unaccepted(&shader.module, &shader.info) {
-        Some(fault) => refuse_unaccepted(alloc, shader, fault, err),
-        None => print("accepted\n", out, err),
-    }
-}
-
-/// Prints why the module has no text.
-fn explain<O: Write, E: Write>(
-    explanation: Result<Explanation, AllocError>,
-    out: &mut O,
-    err: &mut E,
-) -> u8 {
-    match explanation {
-        Ok(Explanation { text, is_written }) => match print(text, out, err) {
-            0 if !is_written => REFUSED,
-            status => status,
-        },
-        Err(_) => fail(Failure::Memory, err),
-    }
-}
-
-/// Prints where the members of the module's structs stand.
-fn tell_layouts<O: Write, E: Write>(
-    alloc: Global,
-    shader: &Shader,
-    out: &mut O,
-    err: &mut E,
-) -> u8 {
-    match unaccepted(&shader.module, &shader.info) {
-        Some(fault) => refuse_unaccepted(alloc, shader, fault, err),
-        None => match layout_table(alloc, &shader.module, &shader.info) {
-            Ok(table) => print(table, out, err),
-            Err(error) => tell_error(error, err),
-        },
-    }
-}
-
-/// Prints which identifier stands for which item of the module.
-fn tell_names<O: Write, E: Write>(
-    alloc: Global,
-    style: Style,
-    shader: &mut Shader,
-    out: &mut O,
-    err: &mut E,
-) -> u8 {
-    match unaccepted(&shader.module, &shader.info) {
-        Some(fault) => refuse_unaccepted(alloc, shader, fault, err),
-        None => match names_line(alloc, style, shader) {
-            Ok(line) => print(line, out, err),
-            Err(error) => tell_error(error, err),
-        },
-    }
-}
-
-fn print_written<O: Write, E: Write>(
-    alloc: Global,
-    written: WriteOutcome<String>,
-    shader: &Shader,
-    out: &mut O,
-    err: &mut E,
-) -> u8 {
-    let WriteOutcome {
-        answer,
-        refusal,
-        sink,
-    } = written;
-    match (answer, refusal) {
-        (Ok(()), _) => print(sink, out, err),
-        (Err(_), Some(refusal)) => {
-            match refusal_line(alloc, &shader.module, refusal, shader.holder) {
-                Ok(line) => refuse(line, err),
-                Err(_) => fail(Failure::Memory, err),
-            }
-        }
-        (Err(error), None) => tell_error(error, err),
-    }
-}
-
-/// Tells why the module is refused, or that memory was.
-fn tell_error<E: Write>(error: Error, err: &mut E) -> u8 {
-    match error {
-        Error::Memory(_) => fail(Failure::Memory, err),
-        reason => refuse(reason, err),
-    }
-}
-
-fn print<O: Write, E: Write>(text: impl Display + Drop, out: &mut O, err: &mut E) -> u8 {
-    match write_and_flush(text, out) {
-        Ok(()) => 0,
-        Err(error) => fail(Failure::Output(error), err),
-    }
-}
-
-fn write_and_flush<O: Write>(text: impl Display + Drop, out: &mut O) -> io::Result<()> {
-    write!(out, "{text}")?;
-    out.flush()
-}
-
-/// Tells where and why the module is not accepted, and what was expected there.
-fn refuse_unaccepted<E: Write>(
-    alloc: Global,
-    shader: &Shader,
-    fault: Unaccepted,
-    err: &mut E,
-) -> u8 {
-    not_accepted(
-        fault_line(alloc, &shader.module, &shader.info, fault, shader.holder),
-        err,
-    )
-}
-
-/// Tells why nothing more is asked of a module.
-fn tell_unasked<E: Write>(
-    alloc: Global,
-    module: &Module,
-    unasked: Unasked,
-    holder: JsonHolder,
-    err: &mut E,
-) -> u8 {
-    match unasked {
-        Unasked::TooDeep(nested) => refuse(nested, err),
-        Unasked::Untyped(untyped) => {
-            not_accepted(untyped_line(alloc, module, untyped, holder), err)
-        }
-        Unasked::Memory(_) => fail(Failure::Memory, err),
-    }
-}
-
-/// Tells the fault for which a module is not accepted.
-fn not_accepted<E: Write>(line: Result<String, AllocError>, err: &mut E) -> u8 {
-    match line {
-        Ok(line) => {
-            let _ = writeln!(err, "not accepted: {line}");
-            REFUSED
-        }
-        Err(_) => fail(Failure::Memory, err),
-    }
-}
-
-fn refuse<E: Write>(reason: impl Display + Drop, err: &mut E) -> u8 {
-    let _ = writeln!(err, "refused: {reason}");
-    REFUSED
 }
 
 fn fail<E: Write>(failure: Failure<'_>, err: &mut E) -> u8 {

@@ -3,8 +3,8 @@ use Rattle.std.proofs.Common.{◌≡◌, ◌≤◌, ◌∙◌, ℕ, List, [], Er
 use Rattle.std.proofs.Common.{Result, Some, ap, inl, inr, is_none, length, refl, subst, sym, arith}
 use Rattle.std.specs.Prelude.{Bool, true, false}
 use Rattle.std.proofs.lemmas.Bool.{le-leb, lt-leb}
-use Rattle.decimal_floats.specs.Decimals.{IsDecimalModule, keeping_digits}
-use Rattle.std.specs.Prelude.{◌<◌, ◌%◌, IfSome, IsTrue}
+use Rattle.decimal_floats.specs.Decimals.{IsDecimalModule, IsDecimalThroughout, keeping_digits}
+use Rattle.std.specs.Prelude.{◌<◌, ◌%◌, IfSome, IsTrue, IsUtf8}
 use Rattle.naga_ir.specs.declared.module.Module.{Module}
 use Rattle.naga_info.specs.declared.info.ModuleInfo.{ModuleInfo}
 use Rattle.module_semantics.specs.acceptance.Accepted.{is_accepted}
@@ -13,7 +13,6 @@ use Rattle.naga_back.specs.Flags.{annotates_types, bits_of}
 use Rattle.naga_refusals.specs.Errors.{TellsOfModule}
 use Rattle.naga_refusals.specs.declared.error.Error.{Error}
 use Rattle.naga_refusals.specs.declared.error.Error.TheVariants as error
-use Rattle.naga_wgsl_out.specs.Checked.{IsCounted}
 use Rattle.naga_wgsl_out.specs.Headline.{FaithfulWriting}
 use Rattle.naga_wgsl_out.specs.ModuleRefusals.{IsRefusal}
 use Rattle.naga_words.specs.declared.sink.SinkError.TheVariants as sink
@@ -22,11 +21,16 @@ use Rattle.naga_acceptance.specs.FirstFaults.{IsFirstFault}
 use Rattle.naga_acceptance.specs.declared.faults.Unaccepted.{Unaccepted}
 use Rattle.naga_wgsl_out.specs.declared.unwritable.Refusal.{Refusal}
 use Rattle.module_positions.specs.Faults.{TellsFaultAt}
+use Rattle.module_answers.specs.Counts.{RaisedFor}
+use Rattle.module_answers.specs.Opening.{OpensWithNames, TellsRuleAt, opening}
 use Rattle.module_answers.specs.Shaders.{IsInfoOf, TellsUnasked, TellsUntypedAt, holder_of}
 use Rattle.module_answers.specs.declared.shaders.Shader.{Shader}
 use Rattle.module_limits.specs.Nesting.{nested_past}
+use Rattle.naga_json.specs.Modules.{seen_given, text_given_said}
+use Rattle.naga_json.specs.Said.{Gives, IsRefusal as IsReadRefusal}
+use Rattle.naga_json.specs.declared.error.ReadError.{ReadError}
 use Rattle.naga_json.specs.declared.modules.Given.{Given}
-use Rattle.module_answers.specs.Wants.{IsDecimalUnlessWanting}
+use Rattle.module_answers.specs.Wants.{IsDecimalUnlessWanting, UnlessWanting}
 use Rattle.module_answers.specs.WriteOutcomes.{TellsBeside}
 use Rattle.module_answers.specs.declared.shaders.Unasked.{Unasked}
 use Rattle.module_answers.specs.declared.shaders.Unasked.TheVariants as unasked
@@ -34,10 +38,10 @@ use Rattle.module_positions.specs.declared.positions.JsonHolder.{JsonHolder}
 use Rattle.module_answers.specs.Within.{IsUnwritten}
 use Rattle.module_answers.specs.declared.within.NoOutcome.{NoOutcome}
 use Rattle.module_answers.specs.declared.within.NoOutcome.TheVariants as unwritten
-use Rattle.yorwethul_c.specs.Answers.{IsAccepted, IsGivenIn, IsRefused, IsTooLong}
+use Rattle.yorwethul_c.specs.Answers.{HasCounts, IsAccepted, IsGivenIn, IsRefused, IsTooLong, SaysNoModule}
 use Rattle.yorwethul_c.specs.Answers.{WasWritten, LacksMemory, Says, SaysOfError, SaysOfUnasked}
 use Rattle.yorwethul_c.specs.Answers.{SaysOfUnwritten, SaysOfWritten, SaysThat, TellsAnyRefusal}
-use Rattle.yorwethul_c.specs.Answers.{TellsOfChecking, TellsOfFault, TellsOfLayouts, WasRead}
+use Rattle.yorwethul_c.specs.Answers.{TellsOfChecking, TellsOfFault, WasRead}
 use Rattle.yorwethul_c.specs.Answers.{deepest_nesting, longest_text, TellsOfReading}
 use Rattle.yorwethul_c.specs.Answers.{TellsOfWriting, IsAsAsked, WasAsked, asks_decimal_floats}
 use Rattle.yorwethul_c.specs.declared.status.Status.{Status}
@@ -73,7 +77,27 @@ pub said_of_none : (from : JsonHolder) (m : Module) (wanted told : Status) (text
 said_of_none from m wanted told text (inl is) = inl (is, tt)
 said_of_none from m wanted told text (inr less) = inr less
 
+-- ---- what was read is what the bytes say
+pub given_in : (json text : List ℕ) (given : Given) (read : Result Given ReadError) →
+    (text ≡ json) × IsUtf8 json → read ≡ Ok given → Gives seen_given (text_given_said text) read → IsGivenIn json given
+given_in json text given read (same, utf8) is said = (
+  utf8,
+  subst (λ bytes. text_given_said bytes ≡ Some (seen_given given)) same
+      (subst (Gives seen_given (text_given_said text)) is said),
+)
+
+-- and where it was refused, they say none
+pub none_in : (json text : List ℕ) (error : ReadError) (read : Result Given ReadError) → text ≡ json →
+    read ≡ Err error → Gives seen_given (text_given_said text) read → IsReadRefusal error → SaysNoModule json
+none_in json text error read same is said refused =
+    λ utf8. subst (λ bytes. text_given_said bytes ≡ None) same
+    (subst (Gives seen_given (text_given_said text)) is said refused)
+
 -- ---- what is said of reading is told by each call
+
+pub no_module : (json : List ℕ) (told : Status) (text : List ℕ) → SaysNoModule json →
+    Says status.NoModule told text → TellsOfReading json told text
+no_module json told text none says = said (TellsOfReading json) status.NoModule told text none refl says
 
 pub unread_written : (json : List ℕ) (flags : ℕ) (told : Status) (text : List ℕ) → TellsOfReading json told text →
     TellsOfWriting json flags told text
@@ -96,17 +120,6 @@ unread_checked json status.Refused text tells = absurd tells
 unread_checked json status.NotAccepted text tells = inr tells
 unread_checked json status.UnknownFlag text tells = absurd tells
 unread_checked json status.TooLong text tells = absurd tells
-
-pub unread_laid_out : (json : List ℕ) (told : Status) (text : List ℕ) → TellsOfReading json told text →
-    TellsOfLayouts json told text
-unread_laid_out json status.NoModule text tells = tells
-unread_laid_out json status.TooDeep text tells = tells
-unread_laid_out json status.OutOfMemory text tells = tells
-unread_laid_out json status.Done text tells = absurd tells
-unread_laid_out json status.Refused text tells = absurd tells
-unread_laid_out json status.NotAccepted text tells = inr tells
-unread_laid_out json status.UnknownFlag text tells = absurd tells
-unread_laid_out json status.TooLong text tells = absurd tells
 
 -- ---- what was read
 
@@ -161,8 +174,8 @@ faulty json from m read found fault text was_read is fails line =
 abbrev was_asked : (json : List ℕ) (flags : ℕ) (writer : WriterFlags) (from : JsonHolder) (given m : Module)
     (read info : ModuleInfo) → flags ≤ 7 → bits_of writer ≡ flags % 4 → WasRead json from given read →
     IsAsAsked (asks_decimal_floats flags) given m →
-    IsTrue (is_accepted given read) → IsCounted m read info → WasAsked json flags
-was_asked json flags writer from given m read info known bits was_read asked accepted counted = record {
+    IsTrue (is_accepted given read) → RaisedFor writer m read info → WasAsked json flags
+was_asked json flags writer from given m read info known bits was_read asked accepted raised = record {
   flags_are_known = known;
   writer = writer;
   has_bits = bits;
@@ -174,7 +187,7 @@ was_asked json flags writer from given m read info known bits was_read asked acc
   was_read = was_read;
   info = info;
   accepted = accepted;
-  counted = counted;
+  raised = raised;
 }
 
 -- the writer was not asked for it, or was stopped
@@ -199,9 +212,28 @@ not_written json flags writer from given m read info (unwritten.NotAccepted faul
     })) refl says
 not_written json flags writer from given m read info unwritten.TooLong told text known bits was_read asked is says =
     let asking =
-    was_asked json flags writer from given m read info known bits was_read (asked refl) is.accepted is.counted in
+    was_asked json flags writer from given m read info known bits was_read (asked refl) is.accepted is.counted.raised in
     let long : IsTooLong json flags = record { asked = asking; past = is.past } in
     said (TellsOfWriting json flags) status.TooLong told text long refl says
+not_written json flags writer from given m read info (unwritten.RuleName h) told text known bits was_read asked is
+    says =
+    said_that (TellsOfWriting json flags) (TellsRuleAt from h) status.Refused told text
+    (λ line. inr (record {
+      flags_are_known = known;
+      writer = writer;
+      has_bits = bits;
+      portable = is.0;
+      from = from;
+      m = given;
+      read = read;
+      was_read = was_read;
+      accepted = is.2;
+      filter = h;
+      lacks = is.1;
+      line = line;
+    })) refl says
+not_written json flags writer from given m read info (unwritten.Memory error) told text known bits was_read asked is
+    says = lacking (TellsOfWriting json flags) told text refl says
 
 pub accepted_by : (json : List ℕ) (from : JsonHolder) (m : Module) (read : ModuleInfo) (found : Option Unaccepted) →
     WasRead json from m read → found ≡ None → is_none found ≡ is_accepted m read → IsAccepted json
@@ -223,13 +255,26 @@ stopped json flags writer from m info refusal (error.FmtError sink.Failed) told 
     let none : ⊥ = omega (arith, reason) in absurd none
 stopped json flags writer from m info refusal (error.FmtError (sink.Memory e)) told text reason is says = absurd reason
 stopped json flags writer from m info refusal (error.Custom e) told text reason is says =
-    said_that (TellsOfWriting json flags) (TellsAnyRefusal from m refusal) status.Refused told text (is tt) refl says.0
+    said_that (TellsOfWriting json flags) (TellsAnyRefusal from m refusal) status.Refused told text
+    (λ line. inl (is tt line)) refl says.0
 stopped json flags writer from m info refusal (error.Unimplemented e) told text reason is says =
-    said_that (TellsOfWriting json flags) (TellsAnyRefusal from m refusal) status.Refused told text (is tt) refl says.0
+    said_that (TellsOfWriting json flags) (TellsAnyRefusal from m refusal) status.Refused told text
+    (λ line. inl (is tt line)) refl says.0
 stopped json flags writer from m info refusal (error.UnsupportedRelationalFunction e) told text reason is says =
-    said_that (TellsOfWriting json flags) (TellsAnyRefusal from m refusal) status.Refused told text (is tt) refl says.0
+    said_that (TellsOfWriting json flags) (TellsAnyRefusal from m refusal) status.Refused told text
+    (λ line. inl (is tt line)) refl says.0
 stopped json flags writer from m info refusal (error.Unsupported kind value) told text reason is says =
-    said_that (TellsOfWriting json flags) (TellsAnyRefusal from m refusal) status.Refused told text (is tt) refl says.0
+    said_that (TellsOfWriting json flags) (TellsAnyRefusal from m refusal) status.Refused told text
+    (λ line. inl (is tt line)) refl says.0
+
+-- an error that tells of the module is no want of memory
+told_so : (e : Error) (P : Type 0) → TellsOfModule e → UnlessWanting (Err e) P → P
+told_so (error.Memory e) P tells holds = absurd tells
+told_so (error.FmtError e) P tells holds = holds
+told_so (error.Custom e) P tells holds = holds
+told_so (error.Unimplemented e) P tells holds = holds
+told_so (error.UnsupportedRelationalFunction e) P tells holds = holds
+told_so (error.Unsupported kind value) P tells holds = holds
 
 pub at_most_seven : (flags : ℕ) → flags < 4 → flags ≤ 7
 at_most_seven flags less = omega arith
@@ -251,41 +296,48 @@ module _ (json : List ℕ) (flags : ℕ) (writer : WriterFlags) (from : JsonHold
     (read info : ModuleInfo) (content : List ℕ) (known : flags ≤ 7) (bits : bits_of writer ≡ flags % 4)
     (was_read : WasRead json from given read) (asked : IsAsAsked (asks_decimal_floats flags) given m)
     (accepted : IsTrue (is_accepted given read))
-    (counted : IsCounted m read info) where
+    (raised : RaisedFor writer m read info) (named : OpensWithNames writer given) where
   abbrev asking : WasAsked json flags
-  asking = was_asked json flags writer from given m read info known bits was_read asked accepted counted
+  asking = was_asked json flags writer from given m read info known bits was_read asked accepted raised
 
   -- an error that tells of the module is a refusal, which is told beside it
-  refusing : (e : Error) (refusal : Option Refusal) (text : List ℕ) →
-      FaithfulWriting writer m info (Err e) [] content 0 0 →
+  refusing : (e : Error) (refusal : Option Refusal) (text : List ℕ) → UnlessWanting (Err e) (HasCounts asking) →
+      (IsTrue (asks_decimal_floats flags) → IsDecimalUnlessWanting (Err e) m) →
+      FaithfulWriting writer m info (Err e) (opening writer given) content 0 0 →
       TellsBeside (annotates_types writer) m info (Err e) refusal → TellsOfModule e →
       TellsAnyRefusal from m refusal text → IsRefused json flags text
-  refusing e None text faithful beside tells line = absurd (beside tells)
-  refusing e (Some refusal) text faithful beside tells line = record {
+  refusing e None text counted complete faithful beside tells line = absurd (beside tells)
+  refusing e (Some refusal) text counted complete faithful beside tells line = record {
     asked = asking;
+    counted = told_so e (HasCounts asking) tells counted;
     error = e;
     beginning = content;
     faithful = faithful;
     refusal = refusal;
     beside = beside;
     line = line;
+    complete = λ asks. told_so e (IsDecimalThroughout m) tells (complete asks);
   }
 
   pub wrote : (answer : Result Unit Error) (refusal : Option Refusal) (told : Status) (text : List ℕ) →
-      (IsTrue (asks_decimal_floats flags) → IsDecimalUnlessWanting answer m) →
-      FaithfulWriting writer m info answer [] content 0 0 → AppendsItsText m info writer answer [] content →
+      UnlessWanting answer (HasCounts asking) → (IsTrue (asks_decimal_floats flags) → IsDecimalUnlessWanting answer m) →
+      FaithfulWriting writer m info answer (opening writer given) content 0 0 →
+      AppendsItsText m info writer answer (opening writer given) content →
       TellsBeside (annotates_types writer) m info answer refusal → length content ≤ longest_text →
       SaysOfWritten from m answer refusal content told text → TellsOfWriting json flags told text
-  wrote (Ok tt) refusal told text complete faithful appends beside within is =
+  wrote (Ok tt) refusal told text counted complete faithful appends beside within is =
       let done : WasWritten json flags text =
       record {
         asked = asking;
-        faithful = subst (λ now. FaithfulWriting writer m info (Ok tt) [] now 0 0) (sym is.1) faithful;
+        counted = counted;
+        named = named;
+        faithful = subst (λ now. FaithfulWriting writer m info (Ok tt) (opening writer given) now 0 0) (sym is.1)
+            faithful;
         text_is = is.1 ∙ appends;
         complete = complete;
         is_within = subst (λ t. length t ≤ longest_text) (sym is.1) within;
       } in
       subst (λ s. TellsOfWriting json flags s text) (sym is.0) done
-  wrote (Err e) refusal told text complete faithful appends beside within says =
+  wrote (Err e) refusal told text counted complete faithful appends beside within says =
       stopped json flags writer from m info refusal e told text faithful.refusals
-      (refusing e refusal text faithful beside) says
+      (refusing e refusal text counted complete faithful beside) says

@@ -1,20 +1,23 @@
 -- What a call from C answers: a status, and a text in the caller's memory.
 --
 -- Throughout, json is the bytes that a call was given, given is what was read of them, m is a module,
--- read is what is known of it, info is the same with the uses counted, and from is what the JSON holds
+-- read is what is known of it, info is the same with counts of uses, and from is what the JSON holds
 -- by which positions are told.
-use Rattle.std.specs.Prelude.{◌≡◌, ◌<◌, ◌≤◌, ⊤, ℕ, ◌%◌, ◌++◌, ◌⊎◌, Bool, true, false, IsTrue}
+use Rattle.std.specs.Prelude.{◌≡◌, ◌<◌, ◌≤◌, ℕ, ◌%◌, ◌++◌, ◌⊎◌, Bool, true, false, IsTrue, IsUtf8}
 use Rattle.std.specs.Prelude.{List, [], None, Option, Some, length}
 use Rattle.std.specs.Option.{IfSome}
 use Rattle.std.specs.Prelude.{drop, if◌then◌else◌, nat_le, Result, Ok, Err}
 use Rattle.naga_ir.specs.declared.module.Module.{Module}
 use Rattle.naga_info.specs.declared.info.ModuleInfo.{ModuleInfo}
-use Rattle.naga_back.specs.Flags.{annotates_types, bits_of}
+use Rattle.diagnostic_directives.specs.Directives.{LacksName}
+use Rattle.naga_back.specs.Flags.{annotates_types, bits_of, is_portable}
 use Rattle.naga_back.specs.declared.flags.WriterFlags.{WriterFlags}
 use Rattle.naga_acceptance.specs.FirstFaults.{IsFirstFault}
 use Rattle.naga_acceptance.specs.declared.faults.Unaccepted.{Unaccepted}
 use Rattle.module_semantics.specs.acceptance.Accepted.{is_accepted}
 use Rattle.module_positions.specs.Faults.{TellsFaultAt}
+use Rattle.module_answers.specs.Counts.{CountsFor, RaisedFor}
+use Rattle.module_answers.specs.Opening.{OpensWithNames, TellsRuleAt, opening}
 use Rattle.module_answers.specs.Refusals.{TellsRefusalAt}
 use Rattle.module_answers.specs.Shaders.{IsInfoOf, TellsUntypedAt, holder_of}
 use Rattle.module_answers.specs.Shaders as shaders
@@ -23,6 +26,7 @@ use Rattle.module_answers.specs.declared.shaders.Unasked.{Unasked}
 use Rattle.module_answers.specs.declared.shaders.Unasked.TheVariants as unasked
 use Rattle.naga_inference.specs.declared.errors.Untyped.{Untyped}
 use Rattle.module_positions.specs.declared.positions.JsonHolder.{JsonHolder}
+use Rattle.module_answers.specs.Within.{IsPastAfter}
 use Rattle.module_answers.specs.declared.within.NoOutcome.{NoOutcome}
 use Rattle.module_answers.specs.declared.within.NoOutcome.TheVariants as unwritten
 use Rattle.module_limits.specs.Nesting.{nested_past}
@@ -31,10 +35,9 @@ use Rattle.naga_form.specs.Declarations.{written_program}
 use Rattle.wgsl_text.specs.Reading.{printed_program}
 use Rattle.naga_refusals.specs.declared.error.Error.{Error}
 use Rattle.naga_refusals.specs.declared.error.Error.TheVariants as error
-use Rattle.naga_wgsl_out.specs.Checked.{IsCounted}
+use Rattle.naga_json.specs.Modules.{seen_given, text_given_said}
 use Rattle.naga_json.specs.declared.modules.Given.{Given}
 use Rattle.naga_wgsl_out.specs.Headline.{FaithfulWriting}
-use Rattle.naga_wgsl_out.specs.Within.{IsPastBound}
 use Rattle.naga_wgsl_out.specs.declared.unwritable.Refusal.{Refusal}
 use Rattle.decimal_floats.specs.Decimals.{IsDecimalModule, IsDecimalThroughout, keeping_digits}
 use Rattle.module_positions.specs.JsonNesting.{nest_too_deep}
@@ -98,12 +101,16 @@ IsAsAsked false given m = m ≡ given
 abbrev pub asks_decimal_floats : (flags : ℕ) → Bool
 asks_decimal_floats flags = nat_le 4 flags
 
--- What `read_given` promises of what it read of these bytes: where they are the module itself, no info
--- came with it. That the module is the one that the bytes tell, its contract doesn't say.
+-- This is what the bytes say, by the definitions of `naga_json`: the module, the info that came with it
+-- if one did, and whether the module is all of the JSON. They are UTF-8.
 abbrev pub IsGivenIn : (json : List ℕ) → Given → Type 0
-IsGivenIn json given = IsTrue given.is_bare → given.info ≡ None
+IsGivenIn json given = IsUtf8 json × (text_given_said json ≡ Some (seen_given given))
 
--- This module was read of the bytes, and is nested no deeper than it may be. What is known of it is
+-- The bytes say no module: they are no UTF-8, or no JSON, or JSON that says none.
+abbrev pub SaysNoModule : (json : List ℕ) → Type 0
+SaysNoModule json = IsUtf8 json → text_given_said json ≡ None
+
+-- This is the module that the bytes say, and is nested no deeper than it may be. What is known of it is
 -- the info that came with it, or if none did, that which the rules of types give.
 pub record WasRead (json : List ℕ) (from : JsonHolder) (m : Module) (read : ModuleInfo)
     : Type 0 where
@@ -128,33 +135,67 @@ pub record WasAsked (json : List ℕ) (flags : ℕ) : Type 0 where
   pub was_read : WasRead json from given read
   pub info : ModuleInfo
   pub accepted : IsTrue (is_accepted given read)
-  pub counted : IsCounted m read info
+  pub raised : RaisedFor writer m read info
 
--- The text is that of an accepted module, written as asked, and faithfully. Where decimal floats are
--- asked for, each finite one has a numeral.
+-- All counts are those that were asked for: of uses, and for standard compilers raised where an operand
+-- stands too deep.
+abbrev pub HasCounts : {json : List ℕ} {flags : ℕ} → WasAsked json flags → Type 0
+HasCounts asked = CountsFor asked.writer asked.m asked.read asked.info
+
+-- the directives that stand in front of the text that was asked for
+abbrev pub asked_opening : {json : List ℕ} {flags : ℕ} → WasAsked json flags → List ℕ
+asked_opening asked = opening asked.writer asked.given
+
+-- The text is that of an accepted module, written as asked, and faithfully, after its directives, each
+-- of which has a name for its rule. Where decimal floats are asked for, each finite one has a numeral.
 pub record WasWritten (json : List ℕ) (flags : ℕ) (text : List ℕ) : Type 0 where
   pub asked : WasAsked json flags
-  pub faithful : FaithfulWriting asked.writer asked.m asked.info (Ok tt) [] text 0 0
-  pub text_is : text ≡ printed_program (written_program asked.m asked.info asked.writer)
+  pub counted : HasCounts asked
+  pub named : OpensWithNames asked.writer asked.given
+  pub faithful :
+      FaithfulWriting asked.writer asked.m asked.info (Ok tt) (asked_opening asked) text 0 0
+  pub text_is :
+      text ≡ asked_opening asked
+      ++ printed_program (written_program asked.m asked.info asked.writer)
   pub complete : IsTrue (asks_decimal_floats flags) → IsDecimalThroughout asked.m
   pub is_within : length text ≤ longest_text
 
--- The text of an accepted module, written as asked, would be longer than it may be; and of one that is
--- refused, what stands in front of what it is refused for.
+-- The text of an accepted module, written as asked, would be longer than it may be, with its
+-- directives; and of one that is refused, what stands in front of what it is refused for.
 pub record IsTooLong (json : List ℕ) (flags : ℕ) : Type 0 where
   pub asked : WasAsked json flags
-  pub past : IsPastBound asked.writer longest_text asked.m asked.info
+  pub past : IsPastAfter asked.writer longest_text (asked_opening asked) asked.m asked.info
 
 -- The writer refused an accepted module, for a listed construct that stands there and is the first,
--- and this line tells it with its position.
+-- and this line tells it with its position. Where decimal floats are asked for, each finite one has a
+-- numeral, so that none is refused for being held as its bits.
 pub record IsRefused (json : List ℕ) (flags : ℕ) (text : List ℕ) : Type 0 where
   pub asked : WasAsked json flags
+  pub counted : HasCounts asked
   pub error : Error
   pub beginning : List ℕ
-  pub faithful : FaithfulWriting asked.writer asked.m asked.info (Err error) [] beginning 0 0
+  pub faithful :
+      FaithfulWriting asked.writer asked.m asked.info (Err error) (asked_opening asked) beginning 0 0
   pub refusal : Refusal
   pub beside : TellsRefusal (annotates_types asked.writer) asked.m asked.info (Err error) refusal
   pub line : TellsRefusalAt asked.from asked.m refusal text
+  pub complete : IsTrue (asks_decimal_floats flags) → IsDecimalThroughout asked.m
+
+-- A module was read that is accepted, and its text is to begin with directives. The rule of a filter of
+-- diagnostics on its chain has no name, and this line tells it with its position.
+pub record LacksRuleName (json : List ℕ) (flags : ℕ) (text : List ℕ) : Type 0 where
+  pub flags_are_known : flags ≤ 7
+  pub writer : WriterFlags
+  pub has_bits : bits_of writer ≡ flags % 4
+  pub portable : IsTrue (is_portable writer)
+  pub from : JsonHolder
+  pub m : Module
+  pub read : ModuleInfo
+  pub was_read : WasRead json from m read
+  pub accepted : IsTrue (is_accepted m read)
+  pub filter : ℕ
+  pub lacks : LacksName m filter
+  pub line : TellsRuleAt from filter text
 
 -- A module was read of which this is nested too deep.
 pub record IsTooDeep (json : List ℕ) : Type 0 where
@@ -195,10 +236,10 @@ pub record IsUntyped (json : List ℕ) (text : List ℕ) : Type 0 where
 abbrev pub TellsOfDepth : (json : List ℕ) → Type 0
 TellsOfDepth json = IsTrue (nest_too_deep json) ⊎ IsTooDeep json
 
--- of what is not asked for more: no module stands in the bytes, they nest too deep, its types are
--- not known, or memory was refused, and then there is no text
+-- of what is not asked for more: the bytes say no module, they nest too deep, its types are not known,
+-- or memory was refused, and then there is no text
 abbrev pub TellsOfReading : (json : List ℕ) → Status → (text : List ℕ) → Type 0
-TellsOfReading json status.NoModule text = ⊤
+TellsOfReading json status.NoModule text = SaysNoModule json
 TellsOfReading json status.TooDeep text = TellsOfDepth json
 TellsOfReading json status.NotAccepted text = IsUntyped json text
 TellsOfReading json status.OutOfMemory text = text ≡ []
@@ -208,10 +249,14 @@ TellsOfReading json _ text = ⊥
 abbrev pub TellsOfFault : (json text : List ℕ) → Type 0
 TellsOfFault json text = IsNotAccepted json text ⊎ IsUntyped json text
 
+-- of a module that is refused
+abbrev pub TellsOfRefusing : (json : List ℕ) (flags : ℕ) → (text : List ℕ) → Type 0
+TellsOfRefusing json flags text = IsRefused json flags text ⊎ LacksRuleName json flags text
+
 -- of a module that is to be written
 abbrev pub TellsOfWriting : (json : List ℕ) (flags : ℕ) → Status → (text : List ℕ) → Type 0
 TellsOfWriting json flags status.Done text = WasWritten json flags text
-TellsOfWriting json flags status.Refused text = IsRefused json flags text
+TellsOfWriting json flags status.Refused text = TellsOfRefusing json flags text
 TellsOfWriting json flags status.TooLong text = IsTooLong json flags
 TellsOfWriting json flags status.NotAccepted text = TellsOfFault json text
 TellsOfWriting json flags status.UnknownFlag text = 8 ≤ flags
@@ -222,13 +267,6 @@ abbrev pub TellsOfChecking : (json : List ℕ) → Status → (text : List ℕ) 
 TellsOfChecking json status.Done text = IsAccepted json × (text ≡ [])
 TellsOfChecking json status.NotAccepted text = TellsOfFault json text
 TellsOfChecking json told text = TellsOfReading json told text
-
--- of one whose layouts are asked for: it is refused where its items get no names
-abbrev pub TellsOfLayouts : (json : List ℕ) → Status → (text : List ℕ) → Type 0
-TellsOfLayouts json status.Done text = IsAccepted json
-TellsOfLayouts json status.Refused text = IsAccepted json
-TellsOfLayouts json status.NotAccepted text = TellsOfFault json text
-TellsOfLayouts json told text = TellsOfReading json told text
 
 -- ---- steps on the way
 
@@ -264,6 +302,9 @@ abbrev pub SaysOfUnwritten : JsonHolder → Module → ModuleInfo → NoOutcome 
 SaysOfUnwritten from m info (unwritten.NotAccepted fault) told text =
     SaysThat (TellsFaultAt from m info fault) status.NotAccepted told text
 SaysOfUnwritten from m info unwritten.TooLong told text = Says status.TooLong told text
+SaysOfUnwritten from m info (unwritten.RuleName h) told text =
+    SaysThat (TellsRuleAt from h) status.Refused told text
+SaysOfUnwritten from m info (unwritten.Memory error) told text = LacksMemory told text
 
 -- what is told of the writer's answer, of a refusal beside it, and of what its sink holds
 abbrev pub SaysOfWritten : JsonHolder → Module → Result Unit Error → Option Refusal →

@@ -1,4 +1,4 @@
--- What is told of the names of a module's items.
+-- What is told of the names of a module's items, and of where the members of its structs stand.
 --
 -- Throughout, m is a module, and flags are those of yorwethul.h.
 use Rattle.std.specs.Prelude.{◌≡◌, ◌≤◌, ℕ, IsTrue, List}
@@ -9,8 +9,11 @@ use Rattle.module_answers.specs.StandardNames.{named_as}
 use Rattle.module_semantics.specs.Names.{module_names}
 use Rattle.module_semantics.specs.acceptance.Accepted.{is_accepted}
 use Rattle.name_maps.specs.NameMaps.{map_text}
-use Rattle.yorwethul_c.specs.Answers.{IsAccepted, TellsOfFault, TellsOfReading, WasRead}
-use Rattle.yorwethul_c.specs.Answers.{asks_decimal_floats}
+use Rattle.naga_refusals.specs.declared.error.Error.{Error}
+use Rattle.naga_refusals.specs.declared.error.Error.TheVariants as error
+use Rattle.naga_wgsl_out.specs.ModuleRefusals.{IsNamesRefusal}
+use Rattle.yorwethul_c.specs.Answers.{LacksMemory, Says, TellsOfFault, TellsOfReading, WasRead}
+use Rattle.yorwethul_c.specs.Answers.{asks_decimal_floats, status_of_error}
 use Rattle.yorwethul_c.specs.declared.status.Status.{Status}
 use Rattle.yorwethul_c.specs.declared.status.Status.TheVariants as status
 
@@ -18,20 +21,47 @@ use Rattle.yorwethul_c.specs.declared.status.Status.TheVariants as status
 abbrev pub named_under : (flags : ℕ) → Module → Module
 named_under flags m = named_as (asks_decimal_floats flags) m
 
--- The text has the names of an accepted module's items, as its text under these flags has them.
-pub record AreNamed (json : List ℕ) (flags : ℕ) (text : List ℕ) : Type 0 where
+-- A module was read that is accepted, and flags are known by which it is named.
+pub record IsToBeNamed (json : List ℕ) (flags : ℕ) : Type 0 where
   pub flags_are_known : flags ≤ 7
   pub from : JsonHolder
   pub m : Module
   pub read : ModuleInfo
   pub was_read : WasRead json from m read
   pub accepted : IsTrue (is_accepted m read)
-  pub text_is : text ≡ map_text (named_under flags m) (module_names (named_under flags m))
+
+-- The text has the names of an accepted module's items, as its text under these flags has them.
+pub record AreNamed (json : List ℕ) (flags : ℕ) (text : List ℕ) : Type 0 where
+  pub asked : IsToBeNamed json flags
+  pub text_is :
+      text ≡ map_text (named_under flags asked.m) (module_names (named_under flags asked.m))
+
+-- The items of an accepted module can't all be named under these flags, for this reason, which stands
+-- in the module and is no lack of memory.
+pub record AreUnnamed (json : List ℕ) (flags : ℕ) : Type 0 where
+  pub asked : IsToBeNamed json flags
+  pub error : Error
+  pub stands : IsNamesRefusal (named_under flags asked.m) error
+  pub is_refusal : status_of_error error ≡ status.Refused
 
 -- of a module whose names are asked for: it is refused where its items can't all be named
 abbrev pub TellsOfNames : (json : List ℕ) (flags : ℕ) → Status → (text : List ℕ) → Type 0
 TellsOfNames json flags status.Done text = AreNamed json flags text
-TellsOfNames json flags status.Refused text = IsAccepted json
+TellsOfNames json flags status.Refused text = AreUnnamed json flags
 TellsOfNames json flags status.NotAccepted text = TellsOfFault json text
 TellsOfNames json flags status.UnknownFlag text = 8 ≤ flags
 TellsOfNames json flags told text = TellsOfReading json told text
+
+-- of one whose layouts are asked for, under the names that its text has under these flags: it is
+-- refused where its items can't all be named
+abbrev pub TellsOfLayouts : (json : List ℕ) (flags : ℕ) → Status → (text : List ℕ) → Type 0
+TellsOfLayouts json flags status.Done text = IsToBeNamed json flags
+TellsOfLayouts json flags status.Refused text = AreUnnamed json flags
+TellsOfLayouts json flags status.NotAccepted text = TellsOfFault json text
+TellsOfLayouts json flags status.UnknownFlag text = 8 ≤ flags
+TellsOfLayouts json flags told text = TellsOfReading json told text
+
+-- what is told where items can't be named
+abbrev pub SaysOfUnnamed : Error → Status → (text : List ℕ) → Type 0
+SaysOfUnnamed (error.Memory e) told text = LacksMemory told text
+SaysOfUnnamed _ told text = Says status.Refused told text

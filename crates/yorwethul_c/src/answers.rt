@@ -4,24 +4,26 @@ ghost use Rattle.std.specs.Prelude.{◌≡◌, ◌<◌, ◌≤◌, ◌%◌, ℕ,
 ghost use Rattle.std.specs.Prelude.{string_bytes};
 ghost use Rattle.naga_back.specs.Flags.{bits_of};
 ghost use Rattle.module_positions.specs.Faults.{TellsFaultAt};
+ghost use Rattle.module_answers.specs.Opening.{TellsRuleAt};
 ghost use Rattle.module_answers.specs.Shaders.{IsInfoOf, holder_of};
 ghost use Rattle.module_limits.specs.Nesting.{nested_past};
-ghost use Rattle.yorwethul_c.specs.Answers.{IsGivenIn, deepest_nesting};
+ghost use Rattle.naga_json.specs.Said.{IsRefusal};
+ghost use Rattle.yorwethul_c.specs.Answers.{IsGivenIn, SaysNoModule, deepest_nesting};
 ghost use Rattle.yorwethul_c.specs.Answers.{LacksMemory, Says, SaysOfError, SaysOfUnasked};
 ghost use Rattle.yorwethul_c.specs.Answers.{SaysOfUnwritten, SaysOfWritten, SaysThat};
-ghost use Rattle.yorwethul_c.specs.Answers.{TellsAnyRefusal, TellsOfChecking, TellsOfLayouts};
-ghost use Rattle.yorwethul_c.specs.Answers.{TellsOfReading, TellsOfWriting, WasRead};
+ghost use Rattle.yorwethul_c.specs.Answers.{TellsAnyRefusal, TellsOfChecking, TellsOfReading};
+ghost use Rattle.yorwethul_c.specs.Answers.{TellsOfWriting, WasRead};
 
 use crate::status::{Status, status_of};
 use bitflags::Flags;
 use module_answers::{
-    NoOutcome, Shader, Unasked, WriteOutcome, holder_of, info_within, layout_table, refusal_line,
+    NoOutcome, Shader, Unasked, WriteOutcome, holder_of, info_within, refusal_line, rule_name_line,
     untyped_line, write_decimal_within, write_within,
 };
 use module_positions::{JsonHolder, NESTS_TOO_DEEP, fault_line, nests_too_deep};
 use naga_acceptance::{Unaccepted, unaccepted};
 use naga_back::WriterFlags;
-use naga_ir::Module;
+use naga_ir::{DiagnosticFilterNode, Handle, Module};
 use naga_json::{Given, ReadError, read_given};
 use naga_wgsl_out::wgsl::Refusal;
 use naga_wgsl_shared::Error;
@@ -76,19 +78,9 @@ pub fn checked(alloc: Global, json: &[u8]) -> Answer
     }
 }
 
-/// Tells where the members of the structs stand of the module that the JSON holds.
-#[tactic(auto, using(crate::proofs::Told::unread_laid_out))]
-pub fn laid_out(alloc: Global, json: &[u8]) -> Answer
-    ensures { TellsOfLayouts json.now result.status (string_bytes result.text) }
-{
-    match shader_in(alloc, json) {
-        Ok(shader) => laid_out_shader(alloc, &shader),
-        Err(answer) => answer,
-    }
-}
-
 /// Reads the module, and finds what is known of it where no info came with it; or tells why nothing
 /// more is asked of it.
+#[tactic(auto, using(crate::proofs::Told::no_module))]
 pub(crate) fn shader_in(alloc: Global, json: &[u8]) -> Result<Shader, Answer>
     ensures read { IfOk result
         (λ shader. WasRead json.now shader.holder shader.module shader.info) }
@@ -144,7 +136,9 @@ fn not_asked(alloc: Global, module: &Module, unasked: Unasked, holder: JsonHolde
 }
 
 /// Tells why no module was read.
+#[tactic(auto, using(crate::proofs::Told::no_module))]
 fn unread(alloc: Global, json: &[u8], error: ReadError) -> Answer
+    requires { IsRefusal error → SaysNoModule json.now }
     ensures { TellsOfReading json.now result.status (string_bytes result.text) }
 {
     match error {
@@ -270,6 +264,8 @@ fn not_written(alloc: Global, shader: &Shader, unwritten: NoOutcome) -> Answer
     match unwritten {
         NoOutcome::NotAccepted(fault) => not_accepted(alloc, shader, fault),
         NoOutcome::TooLong => told(alloc, Status::TooLong, "text too long"),
+        NoOutcome::RuleName(filter) => unnamed_rule(alloc, shader, filter),
+        NoOutcome::Memory(_) => out_of_memory(alloc),
     }
 }
 
@@ -287,24 +283,6 @@ fn checked_shader(alloc: Global, shader: &Shader) -> Answer
     }
 }
 
-fn laid_out_shader(alloc: Global, shader: &Shader) -> Answer
-    ensures { (json : List ℕ) →
-        WasRead json shader.now.holder shader.now.module shader.now.info →
-        TellsOfLayouts json result.status (string_bytes result.text) }
-{
-    match unaccepted(&shader.module, &shader.info) {
-        Some(fault) => not_accepted(alloc, shader, fault),
-        None => match layout_table(alloc, &shader.module, &shader.info) {
-            Ok(text) => Answer {
-                status: Status::Done,
-                text,
-            },
-            Err(Error::Memory(_)) => out_of_memory(alloc),
-            Err(reason) => told(alloc, Status::Refused, reason),
-        },
-    }
-}
-
 /// Tells where and why the module is not accepted, and what was expected there.
 pub(crate) fn not_accepted(alloc: Global, shader: &Shader, fault: Unaccepted) -> Answer
     ensures { SaysThat
@@ -313,6 +291,15 @@ pub(crate) fn not_accepted(alloc: Global, shader: &Shader, fault: Unaccepted) ->
 {
     let text = fault_line(alloc, &shader.module, &shader.info, fault, shader.holder);
     settled(alloc, Status::NotAccepted, text)
+}
+
+/// Tells where a filter of diagnostics stands whose rule has no name.
+fn unnamed_rule(alloc: Global, shader: &Shader, filter: Handle<DiagnosticFilterNode>) -> Answer
+    ensures { SaysThat (TellsRuleAt shader.now.holder filter) Status.Refused result.status
+        (string_bytes result.text) }
+{
+    let text = rule_name_line(alloc, filter, shader.holder);
+    settled(alloc, Status::Refused, text)
 }
 
 /// A status with what is told of it.

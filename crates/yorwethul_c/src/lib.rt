@@ -8,13 +8,12 @@ mod named;
 mod status;
 
 ghost use Rattle.std.specs.Prelude.{◌≡◌};
-ghost use Rattle.yorwethul_c.specs.Answers.{HandsOut, TellsOfChecking, TellsOfLayouts};
-ghost use Rattle.yorwethul_c.specs.Answers.{TellsOfWriting};
-ghost use Rattle.yorwethul_c.specs.NamedItems.{TellsOfNames};
+ghost use Rattle.yorwethul_c.specs.Answers.{HandsOut, TellsOfChecking, TellsOfWriting};
+ghost use Rattle.yorwethul_c.specs.NamedItems.{TellsOfLayouts, TellsOfNames};
 
-use crate::answers::{checked, laid_out, written};
+use crate::answers::{checked, written};
 use crate::copying::hand_out;
-use crate::named::named;
+use crate::named::{laid_out, named};
 use std::alloc::Global;
 
 /// Writes the module that the JSON holds, at most `LONGEST_TEXT` bytes.
@@ -44,17 +43,19 @@ pub extern "C" fn yorwethul_check(
     hand_out(checked(alloc, json), out, needed)
 }
 
-/// Tells where the members of the module's structs stand in memory, or why they can't.
+/// Tells where the members of the module's structs stand in memory, or why they can't, under the names that
+/// its text has under these flags.
 #[unsafe(no_mangle)]
 pub extern "C" fn yorwethul_layout(
     alloc: Global,
     json: &[u8],
+    flags: u32,
     out: &mut [u8],
     needed: &mut usize,
 ) -> u32
-    ensures { HandsOut (TellsOfLayouts json.now) result needed.new out.old out.new }
+    ensures { HandsOut (TellsOfLayouts json.now flags) result needed.new out.old out.new }
 {
-    hand_out(laid_out(alloc, json), out, needed)
+    hand_out(laid_out(alloc, json, flags), out, needed)
 }
 
 /// Tells which identifier of the text that the module has under these flags stands for which item of it, as

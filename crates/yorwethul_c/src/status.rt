@@ -10,7 +10,7 @@ use naga_wgsl_shared::Error;
 pub enum Status {
     /// It is written, accepted, or its layouts are told.
     Done,
-    /// It is accepted, and refused for a construct.
+    /// It is accepted, and refused for a construct, or for a rule of a filter of diagnostics.
     Refused,
     /// It is not accepted.
     NotAccepted,

@@ -1,7 +1,7 @@
 //! What is read from files and from the standard input.
 
 use crate::failure::Failure;
-use crate::words::Invocation;
+use crate::hints::{Wanted, hint_of};
 use module_positions::nests_too_deep;
 use naga_info::ModuleInfo;
 use naga_ir::Module;
@@ -9,14 +9,23 @@ use naga_json::{Given, ReadError, read_given, read_info, read_module};
 use std::rt::Files;
 use std::{fs, io};
 
-/// The module that the invocation names, with what is known of it where a file tells that.
+/// Where a module comes from, and what is known of it.
+#[derive(Clone, Copy, Debug, PartialEq, Eq)]
+pub struct Source<'a> {
+    /// The file with the module, or `-` for the standard input.
+    pub module: &'a str,
+    /// The file with what is known of the module, where one is named.
+    pub info: Option<&'a str>,
+}
+
+/// The module in the file that is named, with what is known of it where a file tells that.
 pub fn given_by<'a, R: Files + Input + AllocGlobal>(
     rt: &R,
-    invocation: Invocation<'a>,
+    source: Source<'a>,
 ) -> Result<Given, Failure<'a>> {
-    match invocation.info {
-        Some(info) => given_in_two(rt, invocation.module, info),
-        None => given_in(rt, invocation.module),
+    match source.info {
+        Some(info) => given_in_two(rt, source.module, info),
+        None => given_in(rt, source.module),
     }
 }
 
@@ -27,7 +36,7 @@ fn given_in<'a, R: Files + Input + AllocGlobal>(
     let text = text_of(rt, name)?;
     match read_given(rt.alloc(), text.as_str()) {
         Ok(given) => Ok(given),
-        Err(error) => Err(unread(name, text.as_str(), error)),
+        Err(error) => Err(unread(name, text.as_str(), error, Wanted::Given)),
     }
 }
 
@@ -57,7 +66,7 @@ fn module_in<'a, R: Files + Input + AllocGlobal>(
     let text = text_of(rt, name)?;
     match read_module(rt.alloc(), text.as_str()) {
         Ok(module) => Ok(module),
-        Err(error) => Err(unread(name, text.as_str(), error)),
+        Err(error) => Err(unread(name, text.as_str(), error, Wanted::Module)),
     }
 }
 
@@ -68,15 +77,18 @@ fn info_in<'a, R: Files + Input + AllocGlobal>(
     let text = text_of(rt, name)?;
     match read_info(rt.alloc(), text.as_str()) {
         Ok(info) => Ok(info),
-        Err(error) => Err(unread(name, text.as_str(), error)),
+        Err(error) => Err(unread(name, text.as_str(), error, Wanted::Info)),
     }
 }
 
-/// Why the text of the file of this name was not read.
-fn unread<'a>(name: &'a str, text: &str, error: ReadError) -> Failure<'a> {
+/// Why the text of the file of this name was not read as what is wanted of it.
+fn unread<'a>(name: &'a str, text: &str, error: ReadError, wanted: Wanted) -> Failure<'a> {
     match error {
         ReadError::NoJson { .. } if nests_too_deep(text.as_bytes()) => Failure::TooDeep(name),
-        error => Failure::Json(name, error),
+        error => {
+            let hint = hint_of(text, &error, wanted);
+            Failure::Json(name, error, hint)
+        }
     }
 }
 

@@ -3,9 +3,13 @@
 #![tactic(auto)]
 
 mod failure;
+mod hints;
 mod inputs;
+mod stack;
 mod words;
 
-pub use failure::Failure;
-pub use inputs::given_by;
-pub use words::{Invocation, Style, Task, invocation_of};
+pub use failure::{Failure, Reason, title};
+pub use hints::Hint;
+pub use inputs::{Source, given_by};
+pub use stack::levels_within;
+pub use words::{Invocation, NESTING, Style, Task, invocation_of};

@@ -106,12 +106,16 @@ def text_in(answer):
 
 def compare(module, number, texts, tally):
     given = [texts.pop(0) for _ in STYLES]
-    for name, is_so in ((NOT_READ, is_read), (NOT_ACCEPTED, is_accepted)):
-        if not is_so(module):
-            for text in given:
-                tally.check(number, module, text, {name})
-            tally.add(name)
-            return
+    if not is_read(module):
+        for text in given:
+            tally.check(number, module, text, {NOT_READ})
+        tally.add(NOT_READ)
+        return
+    if not is_accepted(module):
+        for text in given:
+            tally.check(number, module, text, {NOT_ACCEPTED})
+        tally.add(NOT_ACCEPTED)
+        return
     for (is_plain, explicit), text in zip(STYLES, given):
         in_style = module if is_plain else with_decimals(module)
         is_written, answers = answers_of(in_style, explicit, not is_plain)

@@ -2,6 +2,7 @@
 
 from chance import some_label, some_number, some_type
 from declarations import EntryPointMaker, FaultMaker, OwnMaker
+from filters import make_filters
 from functions import FunctionMaker
 from modules import Expression, Module
 from spelling import BOOL, F32, FUNCTION, I32, U32, pointer_to
@@ -34,6 +35,7 @@ def generate(r):
     if r.random() < 0.2:
         for _ in range(r.choice([1, 1, 1, 2])):
             FaultMaker(r, module, own).make()
+    make_filters(r, module)
     for f in module.bodies():
         if f.result is None:
             # a result was wanted, and nothing of its type is returned

@@ -3,6 +3,7 @@ what functions and entry points take and give. Absent words are told, and an ini
 
 from bindings import meant
 from enables import enabled
+from filters import directives
 from layouts import Layouts
 from naming import Names, member_names
 from reading_layouts import TextLayouts
@@ -14,6 +15,7 @@ from spelling import ATOMIC, STORE, spelled
 def module_interface(module, is_portable=False):
     names, layouts = Names(module), Layouts(module)
     return {
+        "directives": directives(module) if is_portable else [],
         "enables": enabled(module, is_portable),
         "structs": [struct(module, layouts, names, h) for h in module.declared_structs()],
         **items(module, names),
@@ -87,6 +89,7 @@ def text_interface(program):
         return None if e is None else constants.value(e)
 
     return {
+        "directives": program.directives,
         "enables": program.enables,
         "structs": [
             (name, [(*sized(attributes), member, ty) for attributes, member, ty in members])

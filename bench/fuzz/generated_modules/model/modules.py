@@ -167,7 +167,8 @@ class Module:
     """Types with their labels; the special ones, each with what gives it, its size and its scalar, or none where its
     handle is nowhere; what members are bound to, by their struct and number; where members stand, and how long their
     struct is, by their struct; constants, overrides and variables; functions and entry points; the module's own
-    expressions, which stand together as those of a function do; and whether names keep the digits of their labels.
+    expressions, which stand together as those of a function do; filters of diagnostics, and the number of the last one
+    that holds in it, or none; and whether names keep the digits of their labels.
 
     A type may stand there again, under another label: most of a module names the first one."""
 
@@ -176,6 +177,7 @@ class Module:
         self.special, self.bindings, self.placements = [], {}, {}
         self.own, self.constants, self.overrides, self.variables = Function(None, self), [], [], []
         self.functions, self.entry_points = [], []
+        self.filters, self.leaf = [], None
         self.keeps_digits = False
 
     def bodies(self):

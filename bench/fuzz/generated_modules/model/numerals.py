@@ -1,7 +1,7 @@
 """The numerals by which floats are written that a module holds as bits.
 
-Their digits are the fewest from which the number is read back, as Rust's formatting gives them. An `f16` has those of
-the `f32` with the same value."""
+Their digits are the fewest from which the number is read back, as Rust's formatting gives them, but those of the greatest
+`f32` are not above it. An `f16` has those of the `f32` with the same value."""
 
 import copy
 import math
@@ -16,6 +16,8 @@ from spelling import F16, F32, F64
 FORMS = {F16: ("<H", "<e"), F32: ("<I", "<f"), F64: ("<Q", "<d")}
 # how many digits are enough for each of their floats
 DIGITS = {F32: 9, F64: 17}
+GREATEST = float.fromhex("0x1.fffffep127")
+GREATEST_TEXT = "34028234663852885e22"
 
 
 def numeral_of(scalar, bits):
@@ -29,7 +31,9 @@ def numeral_of(scalar, bits):
 
 def shortest(scalar, number):
     """Of the numerals of as few digits as are read back as this number the nearest one, and of two that are as near the
-    greater."""
+    greater. That of the greatest `f32` would be above it."""
+    if scalar == F32 and number == GREATEST:
+        return GREATEST_TEXT
     for digits in range(1, DIGITS[scalar] + 1):
         contexts = (Context(digits, rounding) for rounding in (ROUND_CEILING, ROUND_FLOOR))
         around = (context.create_decimal(Decimal(number)) for context in contexts)

@@ -1,4 +1,5 @@
-"""Reads whole texts: what they enable and declare, their functions and their entry points, in this order.
+"""Reads whole texts: their directives of diagnostics, what they enable and declare, their functions and their entry
+points, in this order.
 
 Each group of declarations has an empty line after it, but entry points, between which there is one.
 """
@@ -19,6 +20,7 @@ class Program:
     def __init__(self, text):
         assert text == "" or text.endswith("\n"), text
         self.left = text.split("\n")[:-1]
+        self.directives = self.group(r"diagnostic\((\w+), (\w+(?:\.\w+)?)\);", lambda found: found.groups())
         self.enables = self.group(r"enable (\w+);", lambda found: found[1])
         assert all(word in EXTENSIONS for word in self.enables), self.enables
         self.structs = []

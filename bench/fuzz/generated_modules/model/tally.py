@@ -3,6 +3,7 @@
 import json
 
 from enables import enables_text
+from filters import directives
 from interface import kept_layouts, module_interface, text_interface, text_layouts
 from layouts import Layouts
 from modules import PARTS, statements_in
@@ -108,8 +109,16 @@ class Tally:
         self.add("refused, where several stand in declarations", len(standing) > 1)
 
     # ---- what is written
+    def add_filters(self, module):
+        held = directives(module)
+        self.add("written, with filters")
+        self.add("written, with several directives", len(held) > 1)
+        self.add("written, with filters of which fewer are in force", len(held) < len(module.filters))
+
     def add_written(self, module, is_portable):
         self.add("written")
+        if is_portable and module.filters:
+            self.add_filters(module)
         self.add("written, of several functions", len(module.bodies()) > 1)
         statements = [s for f in module.bodies() for s in statements_in(f.body)]
         for kind in {s.kind for s in statements}:

@@ -2,6 +2,7 @@
 
 from bindings import attributes
 from enables import enables_text
+from filters import UNNAMED, directives_text, lacks_name
 from layouts import Layouts
 from naming import Names, member_names
 from refusals import refusal, standing_in, standing_in_declarations
@@ -10,6 +11,17 @@ from writer import own_text
 
 
 def answers_of(module, explicit, is_portable=False):
+    """Whether the module is written, and what may be told of it, with the directives of its filters in front for standard
+    compilers, or that a rule of these has no name."""
+    if not is_portable:
+        return answers_after_directives(module, explicit, False)
+    if lacks_name(module):
+        return False, {refusal(UNNAMED)}
+    is_written, answers = answers_after_directives(module, explicit, True)
+    return is_written, {directives_text(module) + answer for answer in answers}
+
+
+def answers_after_directives(module, explicit, is_portable):
     """Whether the module is written, and its text; or all that may be told of it, since which of the constructs that
     stand in it is told is open. What the module declares is looked at before there is any text, and each function
     before its text, so that those in front of the first one that is refused stand in front of the refusal."""

@@ -1,13 +1,17 @@
 use Rattle.std.proofs.Common.{◌≡◌, ◌∙◌, ◌<◌, ◌≤◌, IfErr, IfNone, IfOk, IfSome}
 use Rattle.std.proofs.Common.{ap, is_ok, length, string_bytes, subst, sym}
 use Rattle.naga_acceptance.specs.FirstFaults.{IsFirstFault}
-use Rattle.naga_wgsl_out.specs.Checked.{IsCounted}
 use Rattle.naga_wgsl_out.specs.Within.{unfailed}
-use Rattle.decimal_floats.specs.Decimals.{IsDecimalModule, keeping_digits}
+use Rattle.decimal_floats.specs.Decimals.{IsDecimalModule, IsDecimalThroughout, keeping_digits}
 use Rattle.module_answers.specs.Wants.{IsDecimalUnlessWanting}
+use Rattle.module_answers.specs.Counts.{IsReady}
+use Rattle.module_answers.specs.Opening.{opening}
+use Rattle.module_answers.specs.Within.{IsUnwritten}
 use Rattle.module_answers.specs.WriteOutcomes.{AnswersWriting}
+use Rattle.module_answers.specs.declared.within.NoOutcome.TheVariants as unwritten
 use Rattle.module_answers.proofs.Bounded.{as_kept, is_too_long}
-use Rattle.module_answers.proofs.Wants.{decimal_unfailed}
+use Rattle.module_answers.proofs.Wants.{ready_unfailed, unfailed_unless}
+use Rattle.module_answers.proofs.Openings.{not_too_long, without_opening, passed_on}
 use Rattle.module_answers.proofs.within.write_decimal_within.Goals as goal
 
 pub returns-in-Some-clause-accepted : goal.returns-in-Some-clause-accepted
@@ -24,27 +28,35 @@ returns-in-Some-clause-complete c =
     let w = c.in-Ok.written in
     subst (λ a. IsDecimalUnlessWanting a m)
     (sym (subst (λ o. IfSome o (λ v. v.answer ≡ unfailed w.answer)) c.in-Some.is c.within_its_limit.ensures.answer))
-    (decimal_unfailed w.answer m
+    (unfailed_unless w.answer (IsDecimalThroughout m)
     (subst (λ r. IfOk r (λ w. IsDecimalUnlessWanting w.answer m)) c.in-Ok.is c.write_decimal.ensures.complete))
 
 pub returns-in-Some-clause-counted : goal.returns-in-Some-clause-counted
 returns-in-Some-clause-counted c =
-    subst (λ r. IfOk r (λ _. IsCounted c.write_decimal.new.«module» c.args.info.now c.write_decimal.new.info))
-    c.in-Ok.is c.write_decimal.ensures.counted
+    let m = c.write_decimal.new.«module» in
+    let w = c.in-Ok.written in
+    let new = c.write_decimal.new.info in
+    let ready : IsReady c.args.flags w.answer m c.args.info.now new =
+    subst (λ r. IfOk r (λ w. IsReady c.args.flags w.answer m c.args.info.now new)) c.in-Ok.is c.write_decimal.ensures.counted in
+    subst (λ a. IsReady c.args.flags a m c.args.info.now new)
+    (sym (subst (λ o. IfSome o (λ v. v.answer ≡ unfailed w.answer)) c.in-Some.is c.within_its_limit.ensures.answer))
+    (ready_unfailed c.args.flags w.answer m c.args.info.now new ready)
 
 pub returns-in-Some-clause-written : goal.returns-in-Some-clause-written
 returns-in-Some-clause-written c =
     let flags = c.args.flags in
+    let given = c.args.«module».now in
     let m = c.write_decimal.new.«module» in
     let info = c.write_decimal.new.info in
     let w = c.in-Ok.written in
     let v = c.in-Some.whole in
     let written =
-    subst (λ r. IfOk r (λ w. AnswersWriting flags m info w.answer w.refusal c.new-empty.result.text
-    w.sink.text c.new-empty.result.failures w.sink.failures)) c.in-Ok.is c.write_decimal.ensures.written in
+    subst (λ r. IfOk r (λ w. AnswersWriting flags m info w.answer w.refusal c.in_ok-opening.opening.text
+    w.sink.text c.in_ok-opening.opening.failures w.sink.failures)) c.in-Ok.is c.write_decimal.ensures.written in
     let begun = subst (λ s. AnswersWriting flags m info w.answer w.refusal s.text w.sink.text s.failures
-    w.sink.failures) c.new-empty.ensures written in
-    as_kept flags m info w.answer v.answer w.refusal v.refusal w.sink.text (string_bytes v.sink) w.sink.failures
+    w.sink.failures) c.in_ok-opening.ensures.text written in
+    as_kept flags m info w.answer v.answer w.refusal v.refusal (opening flags given) w.sink.text
+    (string_bytes v.sink) w.sink.failures
     (subst (λ o. IfSome o (λ v. v.answer ≡ unfailed w.answer)) c.in-Some.is c.within_its_limit.ensures.answer)
     (subst (λ o. IfSome o (λ v. v.refusal ≡ w.refusal)) c.in-Some.is c.within_its_limit.ensures.refusal)
     (subst (λ o. IfSome o (λ v. string_bytes v.sink ≡ w.sink.text)) c.in-Some.is c.within_its_limit.ensures.text)
@@ -58,18 +70,19 @@ returns-in-Some-clause-within c =
 pub returns-in-None-clause-unwritten : goal.returns-in-None-clause-unwritten
 returns-in-None-clause-unwritten c =
     let flags = c.args.flags in
+    let given = c.args.«module».now in
     let m = c.write_decimal.new.«module» in
     let info = c.write_decimal.new.info in
     let w = c.in-Ok.written in
     let written =
-    subst (λ r. IfOk r (λ w. AnswersWriting flags m info w.answer w.refusal c.new-empty.result.text
-    w.sink.text c.new-empty.result.failures w.sink.failures)) c.in-Ok.is c.write_decimal.ensures.written in
+    subst (λ r. IfOk r (λ w. AnswersWriting flags m info w.answer w.refusal c.in_ok-opening.opening.text
+    w.sink.text c.in_ok-opening.opening.failures w.sink.failures)) c.in-Ok.is c.write_decimal.ensures.written in
     is_too_long flags c.args.bound c.args.«module».now m c.args.info.now info w.answer w.refusal w.sink.text
     w.sink.failures
     (sym c.write_decimal.ensures.accepted ∙ ap is_ok c.in-Ok.is)
-    (subst (λ r. IfOk r (λ _. IsCounted m c.args.info.now info)) c.in-Ok.is c.write_decimal.ensures.counted)
+    (subst (λ r. IfOk r (λ w. IsReady flags w.answer m c.args.info.now info)) c.in-Ok.is c.write_decimal.ensures.counted)
     (subst (λ s. AnswersWriting flags m info w.answer w.refusal s.text w.sink.text s.failures w.sink.failures)
-    c.new-empty.ensures written)
+    c.in_ok-opening.ensures.text written)
     (subst (λ o. IfNone o (c.args.bound < length w.sink.text)) c.in-None.is c.within_its_limit.ensures.too_long)
 
 pub returns-in-None-clause-too_long : goal.returns-in-None-clause-too_long
@@ -86,3 +99,19 @@ returns-in-Err-clause-unwritten c =
       untouched.0,
       untouched.1,
     )
+
+pub returns-in_err-opening-clause-unwritten : goal.returns-in_err-opening-clause-unwritten
+returns-in_err-opening-clause-unwritten c =
+    passed_on c.from_residual.result c.in_err-opening.field-0.0
+    (IsUnwritten c.args.flags c.args.bound c.args.«module».now c.args.«module».now c.args.info.now c.args.info.now)
+    c.from_residual.ensures.1
+    (without_opening c.args.flags c.args.bound c.args.«module».now c.args.info.now c.in_err-opening.field-0.0
+    c.in_err-opening.ensures.none)
+
+pub returns-in_err-opening-clause-too_long : goal.returns-in_err-opening-clause-too_long
+returns-in_err-opening-clause-too_long c =
+    passed_on c.from_residual.result c.in_err-opening.field-0.0
+    (λ e. e ≡ unwritten.TooLong → IsDecimalModule (keeping_digits c.args.«module».now) c.args.«module».now)
+    c.from_residual.ensures.1
+    (not_too_long c.args.flags c.args.«module».now c.args.info.now c.in_err-opening.field-0.0
+    c.in_err-opening.ensures.none)

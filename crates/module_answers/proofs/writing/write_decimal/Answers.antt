@@ -1,15 +1,18 @@
-use Rattle.std.proofs.Common.{refl, subst}
-use Rattle.std.specs.Prelude.{OnOk}
 use Rattle.decimal_floats.specs.Decimals.{IsDecimalThroughout}
-use Rattle.module_answers.proofs.Wants.{decimal_anyway, want}
+use Rattle.module_answers.specs.Counts.{CountsFor}
+use Rattle.module_answers.proofs.Wants.{unless_before}
 use Rattle.module_answers.proofs.writing.write_decimal.Goals as goal
 
-pub returns-in-Ok-clause-complete : goal.returns-in-Ok-clause-complete
-returns-in-Ok-clause-complete g c =
-    let m = c.count_with_decimals.new.«module» in
-    decimal_anyway c.write_accepted.result.answer m
-    (subst (λ r. OnOk r (IsDecimalThroughout m)) c.in-Ok.is c.count_with_decimals.ensures.complete)
+pub returns-clause-complete : goal.returns-clause-complete
+returns-clause-complete g c =
+    unless_before c.count_with_decimals-ready.result c.write_ready.result.answer
+    (IsDecimalThroughout c.count_with_decimals-ready.new.«module») c.count_with_decimals-ready.ensures.complete
+    c.write_ready.ensures.wanting
 
--- nothing is written
-pub returns-in-Err-clause-written : goal.returns-in-Err-clause-written
-returns-in-Err-clause-written g c = want _ _ _ _ _ _ _ _ refl
+pub returns-clause-counted : goal.returns-clause-counted
+returns-clause-counted g c = record {
+  raised = c.count_with_decimals-ready.ensures.raised;
+  counted = unless_before c.count_with_decimals-ready.result c.write_ready.result.answer
+      (CountsFor c.args.flags c.count_with_decimals-ready.new.«module» c.args.info.now c.count_with_decimals-ready.new.info)
+      c.count_with_decimals-ready.ensures.counted c.write_ready.ensures.wanting;
+}

@@ -33,6 +33,6 @@ returns-clause-check c =
 
 pub returns-clause-after : goal.returns-clause-after
 returns-clause-after c holds =
-    c.check_result.ensures.after (λ key. None) c.args.known.now.shader.now 0
-    ∙ ap (λ o. after_result (inner_names (λ key. None) c.args.known.now.shader.now (λ number. []) 0) o
+    c.check_result.ensures.after (λ key. None) c.args.known.now.whole.shader.now 0
+    ∙ ap (λ o. after_result (inner_names (λ key. None) c.args.known.now.whole.shader.now (λ number. []) 0) o
     (handles_at c.args.scope.now)) c.result.ensures

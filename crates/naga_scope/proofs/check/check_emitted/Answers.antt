@@ -14,7 +14,7 @@ returns-then-not-is_new c =
     let old = sym (c.is_new.ensures.named (λ number. []) (numbered_name h)
     ∙ ap (λ t. is_new (availability_of (λ number. []) (numbered_name h) t)) c.availability.ensures)
     ∙ c.if-not-is_new.true in
-    stopped_old k.shader.now k.module_info.now k.function.now k.info.now c.args.number h
+    stopped_old k.whole.shader.now k.whole.info.now k.function.now k.info.now c.args.number h
     (handles_at c.args.scope.now) old
 
 pub returns-then-not-is_emittable : goal.returns-then-not-is_emittable
@@ -25,7 +25,7 @@ returns-then-not-is_emittable c =
     ∙ ap (λ t. is_new (availability_of (λ number. []) (numbered_name h) t)) c.availability.ensures)
     ∙ c.if-not-is_new.false in
     let kind = sym (c.is_emittable.ensures ∙ ap is_emittable_kind c.kind_at.ensures) ∙ c.if-not-is_emittable.true in
-    stopped_kind k.shader.now k.module_info.now k.function.now k.info.now c.args.number h
+    stopped_kind k.whole.shader.now k.whole.info.now k.function.now k.info.now c.args.number h
     (handles_at c.args.scope.now) new kind
 
 pub returns-then-is_bound : goal.returns-then-is_bound
@@ -36,7 +36,8 @@ returns-then-is_bound c =
     ∙ ap (λ t. is_new (availability_of (λ number. []) (numbered_name h) t)) c.availability.ensures)
     ∙ c.if-not-is_new.false in
     let kind = sym (c.is_emittable.ensures ∙ ap is_emittable_kind c.kind_at.ensures) ∙ c.if-not-is_emittable.false in
-    checked_by k.shader.now k.module_info.now k.function.now k.info.now c.args.number h (handles_at c.args.scope.now)
+    checked_by k.whole.shader.now k.whole.info.now k.function.now k.info.now c.args.number h
+    (handles_at c.args.scope.now)
     c.requires.at.ordered c.requires.at.held true c.check_bound.result new kind
     (sym c.if-is_bound.true ∙ c.requires.bound) c.check_bound.ensures
 
@@ -49,7 +50,7 @@ returns-else-is_bound c =
     ∙ ap (λ t. is_new (availability_of (λ number. []) (numbered_name h) t)) c.availability.ensures)
     ∙ c.if-not-is_new.false in
     let kind = sym (c.is_emittable.ensures ∙ ap is_emittable_kind c.kind_at.ensures) ∙ c.if-not-is_emittable.false in
-    checked_by k.shader.now k.module_info.now k.function.now k.info.now c.args.number h s
+    checked_by k.whole.shader.now k.whole.info.now k.function.now k.info.now c.args.number h s
     c.requires.at.ordered c.requires.at.held false
     (check_operands (shape_of k) s c.args.number h (operands_at k.function.now.expressions h))
     new kind (sym c.if-is_bound.false ∙ c.requires.bound) refl

@@ -23,11 +23,11 @@ returns-in_err-check_emitted-clause-kept c = extends_refl _
 pub returns-clause-after : goal.returns-clause-after
 returns-clause-after c holds =
     let k = c.args.known.now in
-    c.emit.ensures.handles (λ key. None) k.shader.now k.module_info.now k.info.now (λ number. []) 0
+    c.emit.ensures.handles (λ key. None) k.whole.shader.now k.whole.info.now k.info.now (λ number. []) 0
     c.binds-is_bound.ensures
 
 pub returns-clause-named : goal.returns-clause-named
 returns-clause-named c holds =
     let k = c.args.known.now in
-    c.emit.ensures.named ∙ sym (named_one k.shader.now k.module_info.now k.function.now k.info.now c.args.handle
+    c.emit.ensures.named ∙ sym (named_one k.whole.shader.now k.whole.info.now k.function.now k.info.now c.args.handle
     c.args.scope.now.named)

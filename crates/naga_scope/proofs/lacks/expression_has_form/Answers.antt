@@ -7,8 +7,8 @@ use Rattle.naga_scope.proofs.lacks.expression_has_form.Goals as goal
 
 pub returns-in-Some : goal.returns-in-Some
 returns-in-Some c es are =
-    let m = c.args.module.now in
-    let known = c.args.info.now in
+    let m = c.args.known.now.whole.shader.now in
+    let known = c.args.known.now.info.now in
     let e = c.args.expression.now in
     sym (ap (λ b. b && own_offset_has_form es e)
     (refused_lacks (own_refusal m known e) (expression_has_own_form m known e) (own_refusal_is m known e)
@@ -16,8 +16,8 @@ returns-in-Some c es are =
 
 pub returns-in-None : goal.returns-in-None
 returns-in-None c es are =
-    let m = c.args.module.now in
-    let known = c.args.info.now in
+    let m = c.args.known.now.whole.shader.now in
+    let known = c.args.known.now.info.now in
     let e = c.args.expression.now in
     c.offset_has_form.ensures es are
     ∙ sym (ap (λ b. b && own_offset_has_form es e)

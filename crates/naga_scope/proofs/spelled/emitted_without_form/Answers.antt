@@ -12,7 +12,7 @@ loop-index-init c = refl
 
 pub returns-then-is_bound_unsupported : goal.returns-then-is_bound_unsupported
 returns-then-is_bound_unsupported c =
-    let p = is_unsupported_let c.args.known.now.shader.now c.args.known.now.info.now in
+    let p = is_unsupported_let c.args.known.now.whole.shader.now c.args.known.now.info.now in
     let bound = bound_in c.args.known.now in
     let i = c.loop-index.index in
     let e = c.args.range.end in
@@ -25,7 +25,7 @@ returns-then-is_bound_unsupported c =
 
 pub loop-index-preserved : goal.loop-index-preserved
 loop-index-preserved c =
-    let p = is_unsupported_let c.args.known.now.shader.now c.args.known.now.info.now in
+    let p = is_unsupported_let c.args.known.now.whole.shader.now c.args.known.now.info.now in
     let bound = bound_in c.args.known.now in
     let i = c.loop-index.index in
     let e = c.args.range.end in
@@ -37,7 +37,7 @@ loop-index-preserved c =
 
 pub returns : goal.returns
 returns c =
-    let p = is_unsupported_let c.args.known.now.shader.now c.args.known.now.info.now in
+    let p = is_unsupported_let c.args.known.now.whole.shader.now c.args.known.now.info.now in
     let bound = bound_in c.args.known.now in
     sym (ap (λ hs. find p (filter bound hs))
     (range_none c.loop-index.index c.args.range.end c.loop-index-test.false)) ∙ c.loop-index.invariant

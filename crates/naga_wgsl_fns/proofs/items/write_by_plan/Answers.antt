@@ -1,33 +1,17 @@
-use Rattle.naga_tables.proofs.FilledTables.{items_in_order}
-use Rattle.naga_wgsl_fns.proofs.SingleFunctions.{for_plan, none_named, refused, writes}
+use Rattle.naga_wgsl_fns.proofs.SingleFunctions.{for_plan, refused, writes}
 use Rattle.naga_wgsl_fns.proofs.items.write_by_plan.Goals as goal
-
-pub of-requires : goal.of-requires
-of-requires g c = record {
-  ordered =
-      items_in_order c.args.«module».now c.args.info.now c.requires.accepted;
-}
-
-pub returns-in_err-tables-clause-function : goal.returns-in_err-tables-clause-function
-returns-in_err-tables-clause-function g c =
-    λ earlier has.
-    refused c.args.«module».now c.args.info.now c.args.flags earlier c.args.ty.now
-    (g.W.TextSink.text c.args.out.now) (g.W.TextSink.failures c.args.out.now) c.from_residual.result
-    _ c.args.namer.now c.from_residual.ensures.1 tt
-    (none_named c.args.«module».now c.args.info.now c.args.flags earlier c.args.ty.now
-    c.args.namer.now has)
 
 pub returns-in_err-plan-clause-function : goal.returns-in_err-plan-clause-function
 returns-in_err-plan-clause-function g c =
     λ earlier has.
-    let m = c.args.«module».now in
-    let info = c.args.info.now in
+    let k = c.args.known.now in
+    let m = k.shader.now in
+    let info = k.info.now in
     let content = g.W.TextSink.text c.args.out.now in
     let before = g.W.TextSink.failures c.args.out.now in
-    refused m info c.args.flags earlier c.args.ty.now content before
-    c.from_residual-in_err-plan.result
-    _ c.plan_of.new.namer c.from_residual-in_err-plan.ensures.1
-    (for_plan m info c.args.flags earlier c.args.ty.now content before _
+    refused m info k.flags earlier c.args.ty.now content before c.from_residual.result
+    _ c.plan_of.new.namer c.from_residual.ensures.1
+    (for_plan m info k.flags earlier c.args.ty.now content before _
     (c.in_err-plan.ensures.err earlier has))
     (c.in_err-plan.ensures.begun.some earlier has)
 
@@ -37,7 +21,8 @@ returns-in_err-plan-clause-words g c = c.in_err-plan.ensures.begun.words
 pub returns-clause-function : goal.returns-clause-function
 returns-clause-function g c =
     λ earlier has.
-    writes c.args.«module».now c.args.info.now c.args.flags earlier c.args.ty.now c.requires.accepted
+    let k = c.args.known.now in
+    writes k.shader.now k.info.now k.flags earlier c.args.ty.now c.requires.known.accepted
     c.requires.head c.requires.there c.args.namer.now c.plan_of.new.namer c.requires.words has
     c.in_ok-plan.plan c.in_ok-plan.ensures.ok c.in_ok-plan.ensures.named c.write_planned.result
     (g.W.TextSink.text c.args.out.now) (g.W.TextSink.text c.write_planned.new.out)

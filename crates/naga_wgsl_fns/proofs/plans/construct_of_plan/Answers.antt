@@ -7,7 +7,7 @@ use Rattle.naga_wgsl_fns.proofs.plans.construct_of_plan.Goals as goal
 
 pub returns-in-WithoutForm-clause-ok : goal.returns-in-WithoutForm-clause-ok
 returns-in-WithoutForm-clause-ok c =
-    let m = c.args.«module».now in
+    let m = c.args.known.now.shader.now in
     let f = c.args.function.now in
     let known = c.args.info.now in
     let it = c.refused_expression.result in

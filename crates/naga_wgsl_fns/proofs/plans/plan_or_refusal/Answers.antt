@@ -1,45 +1,35 @@
 use Rattle.std.proofs.Common.{length, subst}
 use Rattle.std.specs.Prelude.{IfOk}
-use Rattle.module_semantics.specs.FunctionNumbers.{function_number}
 use Rattle.module_semantics.specs.Written.{OfFunctionAt}
 use Rattle.naga_form.proofs.declarations.AcceptedGroups.{fits_in_range, known_is_fit}
 use Rattle.naga_scope.proofs.Planned.{of_the_ok}
-use Rattle.naga_scope.specs.Plans.{IsPlanOf}
 use Rattle.naga_wgsl_fns.proofs.PlanRefusals.{is_of_plan}
+use Rattle.naga_scope.specs.KnownModules.{explicit_in, number_in}
 use Rattle.naga_wgsl_fns.specs.PlanRefusals.{IsConstructOf}
-use Rattle.naga_wgsl_fns.specs.Unplanned.{IsRefusedFor}
 use Rattle.naga_wgsl_fns.proofs.plans.plan_or_refusal.Goals as goal
 
-pub construct_of_plan-requires-clause-known : goal.construct_of_plan-requires-clause-known
-construct_of_plan-requires-clause-known c =
-    let m = c.args.«module».now in
-    λ h k at. fits_in_range (length m.overrides) m.types k.ty
-    (known_is_fit m c.args.info.now c.requires.accepted (function_number c.args.«module».now c.args.ty.now)
-    c.function_of.result.1.now
-    c.function_of.ensures.known h k at)
+pub construct_of_plan-requires-clause-types : goal.construct_of_plan-requires-clause-types
+construct_of_plan-requires-clause-types c =
+    let k = c.args.known.now in
+    let m = k.shader.now in
+    λ h known at. fits_in_range (length m.overrides) m.types known.ty
+    (known_is_fit m k.info.now c.requires.known.accepted (number_in k c.args.ty.now) c.function_of.result.1.now
+    c.function_of.ensures.known h known at)
 
 pub construct_of_plan-requires-clause-unsupported : goal.construct_of_plan-requires-clause-unsupported
 construct_of_plan-requires-clause-unsupported c =
-    is_of_plan c.annotates_types.result c.args.«module».now c.args.info.now c.requires.accepted
-    (function_number c.args.«module».now c.args.ty.now) c.function_of.result.0.now
-    c.function_of.ensures.function c.function_of.result.1.now c.function_of.ensures.known
-    _ c.in-Err.error c.in-Err.ensures.err
-
-pub returns-in-Ok-clause-ok : goal.returns-in-Ok-clause-ok
-returns-in-Ok-clause-ok c =
-    subst (λ explicit. IsPlanOf explicit c.args.«module».now c.args.info.now
-    (function_number c.args.«module».now c.args.ty.now) c.in-Ok.plan)
-    c.annotates_types.ensures c.in-Ok.ensures.ok
+    let k = c.args.known.now in
+    is_of_plan (explicit_in k) k.shader.now k.info.now c.requires.known.accepted
+    (number_in k c.args.ty.now) c.function_of.result.0.now c.function_of.ensures.function
+    c.function_of.result.1.now c.function_of.ensures.known _ c.in-Err.error c.in-Err.ensures.err
 
 pub returns-in-Ok-construct_of_plan-clause-err : goal.returns-in-Ok-construct_of_plan-clause-err
 returns-in-Ok-construct_of_plan-clause-err c =
-    let m = c.args.«module».now in
-    let info = c.args.info.now in
-    let number = function_number m c.args.ty.now in
-    subst (λ explicit. IsRefusedFor explicit m info number c.args.namer.now c.in-Ok-construct_of_plan.construct
-    c.function_position-part.result)
-    c.annotates_types.ensures
-    (record {
+    let k = c.args.known.now in
+    let m = k.shader.now in
+    let info = k.info.now in
+    let number = number_in k c.args.ty.now in
+    record {
       error = c.in-Err.error;
       refused = c.in-Err.ensures.err;
       first = c.in-Err.ensures.first;
@@ -51,4 +41,4 @@ returns-in-Ok-construct_of_plan-clause-err c =
           c.function_of.ensures.known
           c.construct_of_plan.result c.construct_of_plan.ensures.ok);
       part = c.function_position-part.ensures;
-    })
+    }

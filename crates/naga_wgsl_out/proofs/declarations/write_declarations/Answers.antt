@@ -46,10 +46,13 @@ error_of_want-requires g c is =
 pub write_all-requires : goal.write_all-requires
 write_all-requires g c = record {
   can = record {
-    of_module = c.requires.can;
-    named = c.requires.names;
-    tables = c.requires.tables;
+    of_module = record {
+      info = c.args.known.now.info.now;
+      accepted = c.requires.can.known.accepted;
+    };
+    named = c.requires.can.known.named;
+    tables = c.requires.can.known.tables;
   };
-  forms = c.requires.declared;
-  keys = c.requires.keys;
+  forms = c.requires.can.declared;
+  keys = c.requires.can.names.keys;
 }

@@ -8,13 +8,15 @@ use Rattle.naga_wgsl_out.proofs.structs.write_declared.Goals as goal
 pub is_undeclared-requires : goal.is_undeclared-requires
 is_undeclared-requires g c = record { tables = c.requires.can.can.tables }
 
-pub write_struct-requires-clause-there : goal.write_struct-requires-clause-there
-write_struct-requires-clause-there g c =
+pub write-requires-clause-can : goal.write-requires-clause-can
+write-requires-clause-can g c =
     let m = c.args.text.now.shader.now in
-    subst (λ members. IsDeclaredStruct m c.args.handle members c.in-Struct.span)
-    (sym c.deref.ensures.value)
-    (struct_declared m c.args.handle c.args.ty.now c.in-Struct.members c.in-Struct.span
-    c.requires.there c.in-Struct.is (sym c.is_undeclared.ensures ∙ c.if-not-is_undeclared.true))
+    record {
+      can = c.requires.can;
+      declared = subst (λ members. IsDeclaredStruct m c.args.handle members c.in-Struct.span) (sym c.deref.ensures.value)
+          (struct_declared m c.args.handle c.args.ty.now c.in-Struct.members c.in-Struct.span
+          c.requires.there c.in-Struct.is (sym c.is_undeclared.ensures ∙ c.if-not-is_undeclared.true));
+    }
 
 pub returns-then-not-is_undeclared : goal.returns-then-not-is_undeclared
 returns-then-not-is_undeclared g c =
@@ -23,7 +25,7 @@ returns-then-not-is_undeclared g c =
     (ap (struct_text m c.args.handle) c.deref.ensures.value
     ∙ declared_row m c.args.handle c.args.ty.now c.in-Struct.members c.in-Struct.span
     c.in-Struct.is (sym c.is_undeclared.ensures ∙ c.if-not-is_undeclared.true))
-    c.write_struct.ensures
+    c.write.ensures
 
 pub returns-else-not-is_undeclared : goal.returns-else-not-is_undeclared
 returns-else-not-is_undeclared g c =

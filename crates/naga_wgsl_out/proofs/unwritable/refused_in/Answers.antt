@@ -1,7 +1,7 @@
 use Rattle.std.proofs.Common.{refl}
 use Rattle.module_semantics.proofs.FunctionNumbers.{number_within}
 use Rattle.module_semantics.specs.FunctionNumbers.{all_functions, function_number}
-use Rattle.naga_back.specs.Flags.{annotates_types}
+use Rattle.naga_scope.specs.KnownModules.{explicit_in}
 use Rattle.naga_naming.proofs.Refusal.{element}
 use Rattle.naga_wgsl_out.proofs.ExpressionNames.{named_plan, none_full}
 use Rattle.naga_wgsl_out.proofs.Positions.{found_in, known_at}
@@ -9,11 +9,12 @@ use Rattle.naga_wgsl_out.proofs.unwritable.refused_in.Goals as goal
 
 pub returns-in-Ok : goal.returns-in-Ok
 returns-in-Ok c =
-    let m = c.args.«module».now in
+    let k = c.args.known.now in
+    let m = k.shader.now in
     let number = function_number m c.args.ty.now in
     let within = number_within m c.args.ty.now c.requires.there in
     let plan =
-    named_plan m (annotates_types c.args.flags) c.args.info.now number c.args.namer.now
+    named_plan m (explicit_in k) k.info.now number c.args.namer.now
     c.plan_or_refusal.new.namer c.in-Ok.plan within c.requires.namer c.in-Ok.ensures.ok
     c.in-Ok.ensures.named in
     record {
@@ -27,11 +28,12 @@ returns-in-Ok c =
 
 pub returns-in-Err : goal.returns-in-Err
 returns-in-Err c =
-    let m = c.args.«module».now in
-    let info = c.args.info.now in
+    let k = c.args.known.now in
+    let m = k.shader.now in
+    let info = k.info.now in
     let number = function_number m c.args.ty.now in
     let here = element (all_functions m) number (number_within m c.args.ty.now c.requires.there) in
-    let known = known_at m info c.requires.accepted number here.0 here.1 in
-    found_in (annotates_types c.args.flags) m info c.requires.accepted number here.0 here.1 known.0 known.1
+    let known = known_at m info c.requires.known.accepted number here.0 here.1 in
+    found_in (explicit_in k) m info c.requires.known.accepted number here.0 here.1 known.0 known.1
     c.args.namer.now c.requires.namer c.args.ty.now refl c.plan_or_refusal.new.namer c.refusal_of.result
     c.in-Err.unplanned c.refusal_of.ensures c.in-Err.ensures.err

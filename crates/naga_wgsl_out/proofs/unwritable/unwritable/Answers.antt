@@ -1,4 +1,5 @@
 use Rattle.naga_tables.proofs.FilledTables.{items_in_order}
+use Rattle.naga_wgsl_out.proofs.ItemRows.{can_write_module}
 use Rattle.naga_wgsl_out.proofs.Positions.{labels_stand}
 use Rattle.naga_wgsl_out.proofs.unwritable.unwritable.Goals as goal
 
@@ -6,6 +7,11 @@ pub of-requires : goal.of-requires
 of-requires c = record {
   ordered = items_in_order c.args.«module».now c.args.info.now c.requires.accepted;
 }
+
+pub unwritable_function-requires-clause-can : goal.unwritable_function-requires-clause-can
+unwritable_function-requires-clause-can c =
+    can_write_module _ c.requires.accepted c.in_default.ensures.none c.in_ok-tables.ensures
+    c.in-Ok.ensures.ok
 
 pub returns-in-Some-clause-stands : goal.returns-in-Some-clause-stands
 returns-in-Some-clause-stands c = c.in-Some.ensures.stands

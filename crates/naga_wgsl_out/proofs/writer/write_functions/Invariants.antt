@@ -4,7 +4,7 @@ use Rattle.naga_wgsl_out.proofs.writer.write_functions.Given as goal
 
 abbrev pub invariant-loop-index : goal.invariant-loop-index
 invariant-loop-index g l =
-    IsUpTo l.«module» l.info l.flags l.index
+    IsUpTo l.known.shader.now l.known.info.now l.known.flags l.index
     (g.W.TextSink.text l.initial.out) (g.W.TextSink.failures l.initial.out)
     l.namer (g.W.TextSink.text l.out) (g.W.TextSink.failures l.out)
 
@@ -12,7 +12,8 @@ invariant-loop-index g l =
 abbrev pub invariant-loop-index-2 : goal.invariant-loop-index-2
 invariant-loop-index-2 g l =
     (content : List ℕ) (failed : ℕ) →
-    IsUpTo l.«module» l.info l.flags (length l.«module».functions) content failed
+    IsUpTo l.known.shader.now l.known.info.now l.known.flags (length l.known.shader.now.functions) content failed
     l.initial.namer (g.W.TextSink.text l.initial.out) (g.W.TextSink.failures l.initial.out) →
-    IsUpTo l.«module» l.info l.flags (length l.«module».functions + l.index) content failed
+    IsUpTo l.known.shader.now l.known.info.now l.known.flags
+    (length l.known.shader.now.functions + l.index) content failed
     l.namer (g.W.TextSink.text l.out) (g.W.TextSink.failures l.out)

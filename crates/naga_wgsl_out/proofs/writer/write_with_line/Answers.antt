@@ -21,29 +21,31 @@ named_text m info flags handle plan named =
 
 pub write_planned-requires-clause-head : goal.write_planned-requires-clause-head
 write_planned-requires-clause-head g c =
-    c.requires.declared.heads (function_number c.args.«module».now c.args.ty.now)
+    c.requires.can.declared.heads (function_number c.args.known.now.shader.now c.args.ty.now)
 
 pub returns-in_err-write_planned : goal.returns-in_err-write_planned
 returns-in_err-write_planned g c =
-    let number = function_number c.args.«module».now c.args.ty.now in
+    let k = c.args.known.now in
+    let number = function_number k.shader.now c.args.ty.now in
     appends_stopped c.from_residual.result c.from_residual.ensures.1
     (stopped_first _ (record {
       following =
           subst (λ t. IsAfter (g.W.TextSink.text c.args.out.now) t (g.W.TextSink.text c.write_planned.new.out))
-          (named_text c.args.«module».now c.args.info.now c.args.flags number c.args.plan c.requires.named)
+          (named_text k.shader.now k.info.now k.flags number c.args.plan c.requires.named)
           c.in_err-write_planned.ensures.text_err;
       reason = c.in_err-write_planned.ensures.reason;
     }))
 
 pub returns : goal.returns
 returns g c =
-    let m = c.args.«module».now in
+    let k = c.args.known.now in
+    let m = k.shader.now in
     let number = function_number m c.args.ty.now in
     appends_then c.put.result _ _ _ (record {
       appended =
           c.in_ok-write_planned.ensures.text_ok
           ∙ ap (λ t. g.W.TextSink.text c.args.out.now ++ t)
-          (named_text m c.args.info.now c.args.flags number c.args.plan c.requires.named);
+          (named_text m k.info.now k.flags number c.args.plan c.requires.named);
       kept = c.in_ok-write_planned.ensures.failures_ok;
     })
     (subst

@@ -1,4 +1,4 @@
-use Rattle.std.proofs.Common.{◌≡◌, drop, map}
+use Rattle.std.proofs.Common.{◌≡◌, IsFalse, drop, map}
 use Rattle.std.specs.List.{enumerate_from}
 use Rattle.operand_levels.specs.Levels.{all_bound_where_deep}
 use Rattle.operand_levels.specs.Raised.{AllRaised}
@@ -10,3 +10,4 @@ invariant-loop-index l =
     (bound_from l.infos (enumerate_from l.index (drop l.index (map (λ p. p.function) l.entry_points)))
     ≡ all_bound_where_deep (map (λ p. p.function) l.entry_points) l.initial.infos)
     × AllRaised l.initial.infos l.infos
+    × (IsFalse l.raises → l.infos ≡ l.initial.infos)

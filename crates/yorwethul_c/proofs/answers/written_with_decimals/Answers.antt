@@ -1,11 +1,12 @@
-use Rattle.std.proofs.Common.{◌≡◌, IfErr, IfOk, length, subst, string_bytes, ◌≤◌, []}
-use Rattle.std.specs.Prelude.{IsTrue}
+use Rattle.std.proofs.Common.{◌≡◌, IfErr, IfOk, length, subst, string_bytes, ◌≤◌}
+use Rattle.std.specs.Prelude.{IsTrue, OnOk}
+use Rattle.module_answers.specs.Counts.{IsReady}
+use Rattle.module_answers.specs.Opening.{OpensWithNames, opening}
 use Rattle.module_answers.specs.Wants.{IsDecimalUnlessWanting}
 use Rattle.module_answers.specs.Within.{IsUnwritten}
 use Rattle.module_answers.specs.WriteOutcomes.{AnswersWriting}
 use Rattle.module_answers.specs.declared.within.NoOutcome.TheVariants as unwritten
 use Rattle.module_semantics.specs.acceptance.Accepted.{is_accepted}
-use Rattle.naga_wgsl_out.specs.Checked.{IsCounted}
 use Rattle.decimal_floats.specs.Decimals.{IsDecimalModule, keeping_digits}
 use Rattle.yorwethul_c.specs.Answers.{longest_text}
 use Rattle.yorwethul_c.proofs.Told.{not_written, with_decimal_floats, wrote}
@@ -36,18 +37,20 @@ returns-in-Ok c =
     let w = c.in-Ok.written in
     let accepted =
     subst (λ r. IfOk r (λ _. IsTrue (is_accepted given read))) c.in-Ok.is c.write_decimal_within.ensures.accepted in
-    let counted = subst (λ r. IfOk r (λ _. IsCounted m read info)) c.in-Ok.is c.write_decimal_within.ensures.counted in
+    let ready = subst (λ r. IfOk r (λ w. IsReady writer w.answer m read info)) c.in-Ok.is c.write_decimal_within.ensures.counted in
     let decimal = subst (λ r. IfOk r (λ _. IsDecimalModule (keeping_digits given) m)) c.in-Ok.is
     c.write_decimal_within.ensures.decimal in
     let complete =
     subst (λ r. IfOk r (λ w. IsDecimalUnlessWanting w.answer m)) c.in-Ok.is c.write_decimal_within.ensures.complete in
     let answers =
-    subst (λ r. IfOk r (λ w. AnswersWriting writer m info w.answer w.refusal [] (string_bytes w.sink) 0 0))
+    subst (λ r. IfOk r (λ w. AnswersWriting writer m info w.answer w.refusal (opening writer given)
+    (string_bytes w.sink) 0 0))
     c.in-Ok.is c.write_decimal_within.ensures.written in
+    let named = subst (λ r. OnOk r (OpensWithNames writer given)) c.in-Ok.is c.write_decimal_within.ensures.named in
     let within = subst (λ r. IfOk r (λ w. length (string_bytes w.sink) ≤ longest_text)) c.in-Ok.is
     c.write_decimal_within.ensures.within in
     λ json was_read. wrote json c.args.flags writer c.args.shader.now.holder given m read info (string_bytes w.sink)
     c.requires.known c.writer_flags.ensures was_read
     (with_decimal_floats c.args.flags given m c.requires.decimal decimal)
-    accepted counted w.answer w.refusal _ _ (λ _. complete) answers.faithful answers.text answers.refusal within
+    accepted ready.raised named w.answer w.refusal _ _ ready.counted (λ _. complete) answers.faithful answers.text answers.refusal within
     c.told_written.ensures

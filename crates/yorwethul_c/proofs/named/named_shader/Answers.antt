@@ -1,9 +1,10 @@
-use Rattle.std.proofs.Common.{refl}
+use Rattle.std.proofs.Common.{IfErr, refl, subst}
 use Rattle.module_positions.specs.Faults.{TellsFaultAt}
+use Rattle.naga_wgsl_out.specs.ModuleRefusals.{IsNamesRefusal}
 use Rattle.yorwethul_c.specs.NamedItems.{TellsOfNames}
 use Rattle.yorwethul_c.specs.declared.status.Status.TheVariants as status
-use Rattle.yorwethul_c.proofs.NamedAnswers.{named_by}
-use Rattle.yorwethul_c.proofs.Told.{accepted_by, faulty, said, said_that}
+use Rattle.yorwethul_c.proofs.NamedAnswers.{named_by, to_be_named, unnamed_by}
+use Rattle.yorwethul_c.proofs.Told.{faulty, said_that}
 use Rattle.yorwethul_c.proofs.named.named_shader.Goals as goal
 
 pub returns-in-Some : goal.returns-in-Some
@@ -17,13 +18,18 @@ returns-in-Some c =
 pub returns-in-Ok : goal.returns-in-Ok
 returns-in-Ok c =
     let s = c.args.shader.now in
-    λ json was_read. named_by json c.args.flags s.holder s.module c.name_as_standard.new.«module» s.info _ _
-    c.requires.known was_read c.in-None.is c.unaccepted.ensures.accepted c.name_as_standard.ensures
-    c.in-Ok.ensures.text
+    λ json was_read.
+    let asked = to_be_named json c.args.flags s.holder s.module s.info _ c.requires.known was_read c.in-None.is
+    c.unaccepted.ensures.accepted in
+    named_by json c.args.flags asked c.name_under.new.«module» _ c.name_under.ensures c.in-Ok.ensures.text
 
 pub returns-in-Err : goal.returns-in-Err
 returns-in-Err c =
     let s = c.args.shader.now in
-    λ json was_read. said (TellsOfNames json c.args.flags) status.Refused _ _
-    (accepted_by json s.holder s.module s.info _ was_read c.in-None.is c.unaccepted.ensures.accepted)
-    refl c.told.ensures
+    let named = c.name_under.new.«module» in
+    λ json was_read.
+    let asked = to_be_named json c.args.flags s.holder s.module s.info _ c.requires.known was_read c.in-None.is
+    c.unaccepted.ensures.accepted in
+    unnamed_by (TellsOfNames json c.args.flags) json c.args.flags asked named c.in-Err.error _ _ (λ is. is) refl
+    c.name_under.ensures
+    (subst (λ r. IfErr r (IsNamesRefusal named)) c.in-Err.is c.names_text.ensures.err) c.unnamed.ensures

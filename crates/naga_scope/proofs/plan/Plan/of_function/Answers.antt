@@ -59,7 +59,7 @@ on_err (Err e) p = p
 pub check_function-requires-clause-at : goal.check_function-requires-clause-at
 check_function-requires-clause-at c =
     let k = c.args.known.now in
-    let start = c.in_ok-scope.ensures.start (λ number. []) k.shader.now k.module_info.now k.info.now in
+    let start = c.in_ok-scope.ensures.start (λ number. []) k.whole.shader.now k.whole.info.now k.info.now in
     record {
       ordered = c.requires.ordered;
       size = c.in_ok-scope.ensures.size;
@@ -69,7 +69,7 @@ check_function-requires-clause-at c =
 pub check_function-requires-clause-start : goal.check_function-requires-clause-start
 check_function-requires-clause-start c =
     let k = c.args.known.now in
-    c.in_ok-scope.ensures.start (λ number. []) k.shader.now k.module_info.now k.info.now
+    c.in_ok-scope.ensures.start (λ number. []) k.whole.shader.now k.whole.info.now k.info.now
 
 pub check_function-requires-clause-room : goal.check_function-requires-clause-room
 check_function-requires-clause-room c =
@@ -123,7 +123,7 @@ returns-clause-ok c =
     record {
       in_scope = nothing.0;
       starts = λ named. ap (handles_of named) same.table
-          ∙ c.in_ok-scope.ensures.start named k.shader.now k.module_info.now k.info.now;
+          ∙ c.in_ok-scope.ensures.start named k.whole.shader.now k.whole.info.now k.info.now;
       no_name = c.rewind.ensures.named;
       size = ap length same.table ∙ c.in_ok-scope.ensures.size;
       counted = c.in_ok-scope.ensures.counted;

@@ -1,6 +1,7 @@
 use Rattle.std.proofs.Common.{[], ◌<◌, false, ap, arith, ◌∙◌, length, refl, subst, sym, true, Some}
 use Rattle.std.specs.Option.{option_map, option_map_or, option_to_list}
 use Rattle.naga_ir.specs.Operands.{expression_operands, level_operands}
+use Rattle.naga_ir.specs.declared.expression.Expression.TheVariants.{As, CooperativeLoad}
 use Rattle.std.specs.List.{AllByRecursion}
 use Rattle.naga_words.proofs.Writing.{leaves_as, leaves_last, leaves_more, leaves_start, writes_as}
 use Rattle.naga_words.proofs.Writing.{writes_nothing, writes_then}
@@ -19,15 +20,15 @@ use Rattle.naga_wgsl_fns.specs.Expressions.{next_operand_text, operands_left, op
 use Rattle.naga_wgsl_fns.specs.FunctionText.{AreInText, expressions}
 use Rattle.module_semantics.specs.ExpressionOperators.{level_of}
 use Rattle.module_semantics.specs.OperatorTable.{zero_is_written}
-use Rattle.naga_wgsl_fns.specs.Images.{furthers_text, offset_text, zero_text}
+use Rattle.naga_wgsl_fns.specs.Images.{depths_at, furthers_text, offset_text, zero_text}
 use Rattle.naga_wgsl_fns.proofs.PartRows.{base_pointed, base_signed, base_unpointed, base_unsigned}
 use Rattle.naga_wgsl_fns.proofs.PartRows.{element_end, plain_row, reference_pointed}
 use Rattle.naga_wgsl_fns.proofs.PartRows.{reference_unpointed, selected_end, value_pointed}
 use Rattle.naga_wgsl_fns.proofs.PartRows.{value_unpointed}
 use Rattle.naga_wgsl_fns.proofs.ExpressionRows.{operands_more, operands_none, operands_start}
 use Rattle.naga_wgsl_fns.proofs.ExpressionRows.{no_value_row, own_at, own_called, own_made, own_row}
-use Rattle.naga_wgsl_fns.proofs.ConversionRows.{conversion_row, own_conversion}
-use Rattle.naga_wgsl_fns.proofs.LoadRows.{atomic_loaded, matrix_row, other_loaded, own_matrix_load}
+use Rattle.naga_wgsl_fns.proofs.ConversionRows.{own_conversion, typed_row}
+use Rattle.naga_wgsl_fns.proofs.LoadRows.{atomic_loaded, other_loaded, own_matrix_load}
 use Rattle.naga_wgsl_fns.proofs.functions.FunctionText.+expression.Goals as goal
 
 pub write_own-write_literal-requires : goal.write_own-write_literal-requires
@@ -128,30 +129,23 @@ write_load-returns-else-is_atomic_pointer g t c =
     (sym c.is_atomic_pointer.ensures ∙ c.if-is_atomic_pointer.false))
     c.write_reference.ensures
 
-pub write_own-write_matrix_load-requires : goal.write_own-write_matrix_load-requires
-write_own-write_matrix_load-requires g t c κs within =
-    let formed =
-    written_as c.args.self.now c.requires.can
-    c.index.ensures c.requires.handle c.in-CooperativeLoad.is in
-    (omega (arith, c.decreases), (within, (c.requires.can, (c.requires.handle, formed))))
-
-pub write_matrix_load-returns : goal.write_matrix_load-returns
-write_matrix_load-returns g t c =
-    writes_as
-    (sym
-    (matrix_row c.args.self.now c.args.scope.now.table c.args.columns c.args.rows c.args.role
-    c.args.memory c.args.handle))
-    (writes_then c.write_matrix_callee.ensures (writes_then c.put.ensures c.write_operands.ensures))
+pub write_own-write_matrix_callee-requires-clause-formed : goal.write_own-write_matrix_callee-requires-clause-formed
+write_own-write_matrix_callee-requires-clause-formed g t c =
+    written_as c.args.self.now c.requires.can c.index.ensures c.requires.handle c.in-CooperativeLoad.is
 
 pub write_own-returns-in-CooperativeLoad : goal.write_own-returns-in-CooperativeLoad
 write_own-returns-in-CooperativeLoad g t c =
+    let it = c.in-CooperativeLoad in
+    let loaded = CooperativeLoad it.columns it.rows it.role it.data_ in
     let formed =
     written_as c.args.self.now c.requires.can
     c.index.ensures c.requires.handle c.in-CooperativeLoad.is in
     writes_as
-    (own_matrix_load c.args.self.now c.args.scope.now.table c.requires.can c.requires.handle formed
+    (sym (typed_row c.args.self.now c.args.scope.now.table loaded c.args.handle)
+    ∙ own_matrix_load c.args.self.now c.args.scope.now.table c.requires.can c.requires.handle formed
     c.index.ensures c.in-CooperativeLoad.is)
-    c.write_matrix_load.ensures
+    (writes_then c.write_matrix_callee.ensures
+    (writes_then c.put-in-CooperativeLoad.ensures c.write_operands-in-CooperativeLoad.ensures))
 
 pub write_own-write_swizzle-requires : goal.write_own-write_swizzle-requires
 write_own-write_swizzle-requires g t c κs within =
@@ -213,7 +207,7 @@ write_own-returns-in-None g t c =
       matrix_load = c.in_default.not-CooperativeLoad;
       called = sym c.called_str.ensures ∙ ap (option_map (λ w. w.now)) c.in-None.is;
     }))
-    c.put.ensures
+    c.put-in-None.ensures
 
 pub write_reference-write_local_name-requires-clause-local : goal.write_reference-write_local_name-requires-clause-local
 write_reference-write_local_name-requires-clause-local g t c =
@@ -417,30 +411,21 @@ write_part_end-unreachable-requires g t c =
     no_other_part c.args.self.now c.requires.can c.args.handle c.args.base c.index.result.now
     c.index.ensures c.requires.part c.in_default.not-Access c.in_default.not-AccessIndex
 
-pub write_own-write_conversion-requires : goal.write_own-write_conversion-requires
-write_own-write_conversion-requires g t c κs within =
-    let allowed =
-    written_as c.args.self.now c.requires.can
-    c.index.ensures c.requires.handle c.in-As.is in
-    (omega (arith, c.decreases), (within, (c.requires.can, (c.requires.handle, allowed))))
-
-pub write_conversion-returns : goal.write_conversion-returns
-write_conversion-returns g t c =
-    writes_as
-    (sym
-    (conversion_row c.args.self.now c.args.scope.now.table c.args.operand c.args.kind c.args.convert
-    c.args.handle))
-    (writes_then c.write_callee.ensures (writes_then c.put.ensures c.write_operands.ensures))
+pub write_own-write_cast_callee-requires-clause-formed : goal.write_own-write_cast_callee-requires-clause-formed
+write_own-write_cast_callee-requires-clause-formed g t c =
+    written_as c.args.self.now c.requires.can c.index.ensures c.requires.handle c.in-As.is
 
 pub write_own-returns-in-As : goal.write_own-returns-in-As
 write_own-returns-in-As g t c =
+    let cast = As c.in-As.expr c.in-As.kind c.in-As.convert in
     let allowed =
     written_as c.args.self.now c.requires.can
     c.index.ensures c.requires.handle c.in-As.is in
     writes_as
-    (own_conversion c.args.self.now c.args.scope.now.table c.requires.can c.requires.handle allowed
+    (sym (typed_row c.args.self.now c.args.scope.now.table cast c.args.handle)
+    ∙ own_conversion c.args.self.now c.args.scope.now.table c.requires.can c.requires.handle allowed
     c.index.ensures c.in-As.is)
-    c.write_conversion.ensures
+    (writes_then c.write_cast_callee.ensures (writes_then c.put.ensures c.write_operands.ensures))
 
 pub write_further-returns-in-Some : goal.write_further-returns-in-Some
 write_further-returns-in-Some g t c =
@@ -529,9 +514,8 @@ write_sampling-write_sampling_head-requires-clause-image g t c =
     (operands_in c.args.self.now c.requires.can
     c.index.ensures c.in-ImageSample.is c.requires.handle).0.1
 
-pub write_sampling-write_sampling_head-requires-clause-has_form :
-    goal.write_sampling-write_sampling_head-requires-clause-has_form
-write_sampling-write_sampling_head-requires-clause-has_form g t c =
+pub write_sampling-sampling_str-word-requires : goal.write_sampling-sampling_str-word-requires
+write_sampling-sampling_str-word-requires g t c =
     let s = c.in-ImageSample in
     ap (λ b. sampling_has_form s.gather s.level b s.clamp_to_edge) c.is_some-compares.ensures
     ∙ written_as c.args.self.now c.requires.can c.index.ensures c.requires.handle s.is
@@ -624,6 +608,7 @@ write_sampling-returns g t c =
     (sampling_whole c.args.self.now c.args.scope.now.table c.args.handle s.image s.sampler s.gather
     s.coordinate s.array_index s.offset s.level s.depth_ref s.clamp_to_edge
     (c.index.ensures ∙ ap Some s.is) c.is_some-compares.result c.is_some-compares.ensures
+    c.sampling_str-word.result.now (c.sampling_str-word.ensures (depths_at c.args.self.now s.image))
     c.level_str.result.now
     (c.level_str.ensures
     ∙ (λ i. zero_text

@@ -24,12 +24,6 @@ decreases-write_made g l = 16 * l.handle + 1
 abbrev pub decreases-write_load : goal.decreases-write_load
 decreases-write_load g l = 16 * l.handle + 3
 
-abbrev pub decreases-write_matrix_load : goal.decreases-write_matrix_load
-decreases-write_matrix_load g l = 16 * l.handle + 1
-
-abbrev pub decreases-write_conversion : goal.decreases-write_conversion
-decreases-write_conversion g l = 16 * l.handle + 1
-
 abbrev pub decreases-write_part_end : goal.decreases-write_part_end
 decreases-write_part_end g l = 16 * l.handle
 

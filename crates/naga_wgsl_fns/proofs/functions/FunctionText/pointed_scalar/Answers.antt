@@ -6,7 +6,7 @@ use Rattle.naga_wgsl_fns.proofs.functions.FunctionText.pointed_scalar.Goals as g
 
 pub unreachable-requires : goal.unreachable-requires
 unreachable-requires c =
-    let types = c.args.self.now.shader.now.types in
+    let types = c.args.self.now.known.shader.now.types in
     let none =
     ap (option_and_then (pointee_scalar types)) c.type_of.ensures
     ∙ (sym c.pointee_scalar.ensures ∙ c.in-None.is) in
@@ -14,6 +14,6 @@ unreachable-requires c =
 
 pub returns : goal.returns
 returns c =
-    let types = c.args.self.now.shader.now.types in
+    let types = c.args.self.now.known.shader.now.types in
     ap (option_and_then (pointee_scalar types)) c.type_of.ensures
     ∙ (sym c.pointee_scalar.ensures ∙ c.in-Some.is)

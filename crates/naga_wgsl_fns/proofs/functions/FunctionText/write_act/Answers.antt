@@ -44,7 +44,7 @@ pub returns-in-Some-clause-after : goal.returns-in-Some-clause-after
 returns-in-Some-clause-after g c =
     let self = c.args.self.now in
     let s = handles_in self c.args.at.now.scope.table in
-    c.introduce.ensures.handles (module_names self.shader.now) self.shader.now (named_in self) (number self)
+    c.introduce.ensures.handles (module_names self.known.shader.now) self.known.shader.now (named_in self) (number self)
     ∙ (ap (λ o. after_result (naming self).names o s) (sym c.in-Some.is ∙ c.result.ensures)
     ∙ act_after self c.args.at.now.scope.named s (tree_of c.args.statement.now) c.requires.act)
 

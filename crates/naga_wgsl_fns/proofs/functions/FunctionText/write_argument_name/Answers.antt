@@ -16,5 +16,6 @@ pub returns : goal.returns
 returns g c =
     let self = c.args.self.now in
     writes_as
-    (ap (name_in (module_names self.shader.now)) c.argument_key.ensures ∙ argument_is self c.requires.can c.args.number)
+    (ap (name_in (module_names self.known.shader.now)) c.argument_key.ensures
+    ∙ argument_is self c.requires.can c.args.number)
     c.write_name.ensures

@@ -31,7 +31,7 @@ loop-index-init g c = record {
 
 pub write_emitted-requires-clause-bound : goal.write_emitted-requires-clause-bound
 write_emitted-requires-clause-bound g c =
-    let self = c.args.self.now in c.binds-is_bound.ensures self.shader.now self.module_info.now refl
+    let self = c.args.self.now in c.binds-is_bound.ensures self.known.shader.now self.known.info.now refl
 
 pub write_emitted-requires-clause-handle : goal.write_emitted-requires-clause-handle
 write_emitted-requires-clause-handle g c =
@@ -84,8 +84,8 @@ loop-index-preserved g c =
     let k = c.loop-index.at.scope.named in
     let one : handles_in self c.emit.new.self.table ≡ after_one (naming self) k h
     (handles_in self c.loop-index.at.scope.table) =
-    c.emit.ensures.handles (module_names self.shader.now) self.shader.now self.module_info.now self.info.now
-    (named_in self) (number self) (c.binds-is_bound.ensures self.shader.now self.module_info.now refl) in
+    c.emit.ensures.handles (module_names self.known.shader.now) self.known.shader.now self.known.info.now self.info.now
+    (named_in self) (number self) (c.binds-is_bound.ensures self.known.shader.now self.known.info.now refl) in
     let given : c.emit.new.self.named ≡ named_after (naming self).function h k = c.emit.ensures.named
     ∙ sym (named_after_one self c.requires.can h k) in
     let log = i.counted in

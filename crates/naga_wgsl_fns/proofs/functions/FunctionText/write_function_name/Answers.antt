@@ -15,5 +15,5 @@ pub returns : goal.returns
 returns g c =
     let self = c.args.self.now in
     writes_as
-    (ap (name_in (module_names self.shader.now)) c.key.ensures ∙ function_is self c.requires)
+    (ap (name_in (module_names self.known.shader.now)) c.key.ensures ∙ function_is self c.requires)
     c.write_name.ensures

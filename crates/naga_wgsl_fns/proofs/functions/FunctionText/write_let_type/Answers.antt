@@ -8,7 +8,7 @@ pub index-requires : goal.index-requires
 index-requires g c = known_within_infos c.args.self.now c.requires.can c.args.handle c.requires.handle
 
 pub names_undeclared-requires : goal.names_undeclared-requires
-names_undeclared-requires g c = record { tables = c.requires.can.tables }
+names_undeclared-requires g c = record { tables = c.requires.can.known.tables }
 
 pub write_annotation-requires-clause-formed : goal.write_annotation-requires-clause-formed
 write_annotation-requires-clause-formed g c =

@@ -16,5 +16,5 @@ pub returns : goal.returns
 returns g c =
     let self = c.args.self.now in
     writes_as
-    (ap (name_in (module_names self.shader.now)) c.local_key.ensures ∙ local_is self c.requires.can c.args.local)
+    (ap (name_in (module_names self.known.shader.now)) c.local_key.ensures ∙ local_is self c.requires.can c.args.local)
     c.write_name.ensures

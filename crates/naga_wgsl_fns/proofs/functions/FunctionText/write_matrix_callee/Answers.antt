@@ -15,7 +15,7 @@ write_taking-requires-clause-formed g c =
     matrix_loaded self c.requires.can c.args.columns c.args.rows c.args.role c.args.memory
     c.requires.formed in
     subst
-    (λ s. has_type_form self.shader.now.types
+    (λ s. has_type_form self.known.shader.now.types
     (Value (CooperativeMatrix c.args.columns c.args.rows s c.args.role)) ≡
     true)
     (same_Some loaded.scalar _ (sym loaded.known ∙ c.pointed_scalar-scalar.ensures)) loaded.formed
@@ -31,7 +31,7 @@ returns g c =
     c.requires.formed in
     let formed =
     subst
-    (λ s. has_type_form self.shader.now.types
+    (λ s. has_type_form self.known.shader.now.types
     (Value (CooperativeMatrix c.args.columns c.args.rows s c.args.role)) ≡
     true)
     (same_Some loaded.scalar _ (sym loaded.known ∙ c.pointed_scalar-scalar.ensures)) loaded.formed in

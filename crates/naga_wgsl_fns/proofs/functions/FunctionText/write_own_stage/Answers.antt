@@ -15,7 +15,7 @@ pub write_stage-requires-clause-there : goal.write_stage-requires-clause-there
 write_stage-requires-clause-there g c =
     let f = c.args.self.now in
     subst (λ m. StageIsThere m c.index-point.result.now) (sym c.of_module.ensures.shader)
-    (stage_is_there f.shader.now f.module_info.now c.requires.accepted c.in-EntryPoint.index
+    (stage_is_there f.known.shader.now f.known.info.now c.requires.known.accepted c.in-EntryPoint.index
     c.index-point.result.now (own_entry_point c.args.self.now c.requires c.in-EntryPoint.index c.in-EntryPoint.is
     c.index-point.result.now c.index-point.ensures))
 

@@ -2,6 +2,7 @@ use Rattle.std.proofs.Common.{Err, ap, refl, subst}
 use Rattle.naga_tables.proofs.FilledTables.{items_in_order}
 use Rattle.naga_wgsl_out.proofs.Faithful.{Concludes, concludes, concludes_in_front}
 use Rattle.naga_wgsl_out.proofs.Faithful.{leaves_untouched, refused}
+use Rattle.naga_wgsl_out.proofs.ItemRows.{can_write_module}
 use Rattle.naga_wgsl_out.proofs.ModuleScopes.{declaration_refuses, declaration_tells_of_none}
 use Rattle.naga_wgsl_out.proofs.Positions.{labels_told}
 use Rattle.naga_wgsl_out.proofs.ReportedNames.{tells_of_none}
@@ -56,6 +57,17 @@ returns-in_err-write_front g c =
       leaves = ends.leaves;
       flags = ap (λ w. w.flags) c.self.view_is;
     }
+
+pub write_front-requires : goal.write_front-requires
+write_front-requires g c = record {
+  can = can_write_module _ c.requires.accepted c.in_default.ensures.none c.in_ok-tables.ensures
+      c.in_ok-names.ensures.ok;
+}
+
+pub write_functions-requires-clause-can : goal.write_functions-requires-clause-can
+write_functions-requires-clause-can g c =
+    can_write_module _ c.requires.accepted c.in_default.ensures.none c.in_ok-tables.ensures
+    c.in_ok-names.ensures.ok
 
 pub of-requires : goal.of-requires
 of-requires g c = record {

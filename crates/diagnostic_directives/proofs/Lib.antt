@@ -1,0 +1,4 @@
+pub mod Chains
+mod DirectiveExamples
+pub mod Keeping
+pub mod Walking

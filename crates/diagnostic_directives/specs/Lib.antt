@@ -1,0 +1,4 @@
+pub mod Names
+pub mod Filters
+pub mod Directives
+pub mod Found

@@ -1,0 +1,10 @@
+-- what all say is what those to come say
+use Rattle.std.proofs.Common.{◌≡◌, drop}
+use Rattle.json.specs.Value.{items_view}
+use Rattle.naga_json.specs.Diagnostics.{each_item, entry_without_own}
+use Rattle.naga_json.proofs.diagnostics.expect_entry_leaves.Given as goal
+
+abbrev pub invariant-loop-index : goal.invariant-loop-index
+invariant-loop-index l =
+    each_item (entry_without_own l.leaf) (items_view (drop l.index l.entry_point-items))
+    ≡ each_item (entry_without_own l.leaf) (items_view l.entry_point-items)

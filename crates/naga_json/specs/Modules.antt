@@ -1,0 +1,248 @@
+-- What a JSON value says of a module: the members of naga's `Module`, as serde writes them by their names in Rust; and
+-- of a module with what is known of it (docs/JSON.md).
+--
+-- Throughout, m is what contracts see of a module, and e the index of one of its own expressions.
+use Rattle.std.specs.Prelude.{ℕ, ◌+◌, List, [], ◌∷◌, ◌++◌, map, Bool, true, false, not, ◌&&◌}
+use Rattle.std.specs.Prelude.{if◌then◌else◌, length, slice_get, slice_set, codes, Option, Some, None}
+use Rattle.std.specs.Option.{is_some, option_map, option_map_or}
+use Rattle.std.specs.List.{position_or_len}
+use Rattle.indexmap.specs.IndexSet.{insert_key}
+use Rattle.json.specs.Json.{Json, Items, no_items, item}
+use Rattle.json.specs.Find.{get}
+use Rattle.naga_json.specs.Said.{◌>>=◌, members_beside, field, field_or, is_object, list_said, option_field}
+use Rattle.naga_json.specs.Declarations.{constant_said, global_variable_said, override_said}
+use Rattle.naga_json.specs.Diagnostics.{filters_said, list_at}
+use Rattle.naga_json.specs.Expressions.{expression_said}
+use Rattle.naga_json.specs.Functions.{SeenEntryPoint, SeenFunction, entry_point_said, function_said}
+use Rattle.naga_json.specs.Functions.{seen_entry_point, seen_function, sizes_said}
+use Rattle.naga_json.specs.Infos.{module_info_said}
+use Rattle.naga_json.specs.LetBe.{of_module}
+use Rattle.naga_json.specs.Seen.{SeenConstant, SeenExpression, SeenFilters, SeenGlobal}
+use Rattle.naga_json.specs.Seen.{SeenModuleInfo, filters_of}
+use Rattle.naga_json.specs.Seen.{SeenOverride, SeenType, composition}
+use Rattle.naga_json.specs.Seen.{plain_expression, plain_inner}
+use Rattle.naga_json.specs.Seen.{seen_constant, seen_expression, seen_global, seen_module_info}
+use Rattle.naga_json.specs.Seen.{seen_override, seen_type}
+use Rattle.naga_json.specs.Text.{json_of}
+use Rattle.naga_json.specs.TypeLists.{SeenSpecialTypes, no_special_types, same_type}
+use Rattle.naga_json.specs.TypeLists.{seen_special_types, special_types_said, types_said}
+use Rattle.naga_json.specs.declared.modules.Given.{Given}
+use Rattle.naga_json.specs.declared.modules.Known.{Known}
+use Rattle.naga_ir.specs.Literals.{literal_scalar}
+use Rattle.naga_ir.specs.declared.expression.Expression.{Expression}
+use Rattle.naga_ir.specs.declared.expression.Literal.{Literal}
+use Rattle.naga_ir.specs.declared.module.Module.{Module}
+use Rattle.naga_ir.specs.declared.types.TypeInner.{TypeInner}
+
+-- what contracts see of a module
+pub record SeenModule : Type 0 where
+  pub types : List SeenType
+  pub special_types : SeenSpecialTypes
+  pub constants : List SeenConstant
+  pub overrides : List SeenOverride
+  pub global_variables : List SeenGlobal
+  pub global_expressions : List SeenExpression
+  pub functions : List SeenFunction
+  pub entry_points : List SeenEntryPoint
+  pub filters : SeenFilters
+  pub keeps_digits : Bool
+
+abbrev pub seen_module : Module → SeenModule
+seen_module m = record {
+  types = map seen_type m.types;
+  special_types = seen_special_types m.special_types;
+  constants = map seen_constant m.constants;
+  overrides = map seen_override m.overrides;
+  global_variables = map seen_global m.global_variables;
+  global_expressions = map seen_expression m.global_expressions;
+  functions = map seen_function m.functions;
+  entry_points = map seen_entry_point m.entry_points.items;
+  filters = filters_of m;
+  keeps_digits = m.keeps_digits;
+}
+
+abbrev pub no_filters : SeenFilters
+no_filters = record { nodes = []; leaf = None }
+
+abbrev pub no_module : SeenModule
+no_module = record {
+  types = [];
+  special_types = no_special_types;
+  constants = [];
+  overrides = [];
+  global_variables = [];
+  global_expressions = [];
+  functions = [];
+  entry_points = [];
+  filters = no_filters;
+  keeps_digits = false;
+}
+
+-- all but the overrides of the sizes of workgroups and the filters of diagnostics
+unfoldable pub module_members : Json → Option SeenModule
+module_members j = do
+  types ← field_or "types" [] types_said j
+  special_types ← field_or "special_types" no_special_types special_types_said j
+  constants ← field_or "constants" [] (list_said constant_said) j
+  overrides ← field_or "overrides" [] (list_said override_said) j
+  global_variables ← field_or "global_variables" [] (list_said global_variable_said) j
+  global_expressions ← field_or "global_expressions" [] (list_said expression_said) j
+  functions ← field_or "functions" [] (list_said function_said) j
+  entry_points ← field_or "entry_points" [] (list_said entry_point_said) j
+  Some (record {
+    types = types;
+    special_types = special_types;
+    constants = constants;
+    overrides = overrides;
+    global_variables = global_variables;
+    global_expressions = global_expressions;
+    functions = functions;
+    entry_points = entry_points;
+    filters = no_filters;
+    keeps_digits = false;
+  })
+
+-- ---- the overrides of the sizes of workgroups
+
+-- the type of a literal, without a name
+abbrev pub literal_type : Literal → SeenType
+literal_type x = record { name = None; inner = plain_inner (TypeInner.Scalar (literal_scalar x)) }
+
+-- an override without a name and of this type, after all others, that the expression initialises
+abbrev pub added_override : SeenModule → (ty e : ℕ) → ℕ × SeenModule
+added_override m ty e = (
+  length m.overrides,
+  record m {
+    overrides = m.overrides ++ record { name = None; id = None; ty = ty; init = Some e } ∷ [];
+  },
+)
+
+-- the same of a constant's type
+abbrev pub constant_override : SeenModule → (constant e : ℕ) → Option (ℕ × SeenModule)
+constant_override m constant e =
+    slice_get m.constants constant >>= λ c. Some (added_override m c.ty e)
+
+-- the same of a literal's type, which the module has from then on
+abbrev pub typed_override : SeenModule → Literal → (e : ℕ) → ℕ × SeenModule
+typed_override m x e =
+    added_override (record m { types = insert_key same_type m.types (literal_type x) })
+    (position_or_len (same_type (literal_type x)) m.types) e
+
+-- of integers of 32 bits alone
+abbrev pub literal_override : SeenModule → Literal → (e : ℕ) → Option (ℕ × SeenModule)
+literal_override m (Literal.U32 n) e = Some (typed_override m (Literal.U32 n) e)
+literal_override m (Literal.I32 n) e = Some (typed_override m (Literal.I32 n) e)
+literal_override m x e = None
+
+abbrev pub override_by : SeenModule → (e : ℕ) → Expression → Option (ℕ × SeenModule)
+override_by m e (Expression.Override found) = Some (found, m)
+override_by m e (Expression.Constant constant) = constant_override m constant e
+override_by m e (Expression.Literal x) = literal_override m x e
+override_by m e x = None
+
+-- a composition sets no size
+abbrev pub override_seen : SeenModule → (e : ℕ) → SeenExpression → Option (ℕ × SeenModule)
+override_seen m e (plain_expression x) = override_by m e x
+override_seen m e (composition ty components) = None
+
+-- The override that an expression is, or that a constant or a literal becomes, and the module then. No other
+-- expression sets a size.
+abbrev pub override_of : SeenModule → (e : ℕ) → Option (ℕ × SeenModule)
+override_of m e = slice_get m.global_expressions e >>= λ x. override_seen m e x
+
+abbrev pub axis_sized : Option ℕ → SeenModule → Option (Option ℕ × SeenModule)
+axis_sized None m = Some (None, m)
+axis_sized (Some e) m = override_of m e >>= λ o. Some (Some o.0, o.1)
+
+-- the overrides along the axes, one after another
+abbrev pub axes_sized : List (Option ℕ) → SeenModule → Option (List (Option ℕ) × SeenModule)
+axes_sized [] m = Some ([], m)
+axes_sized (e ∷ es) m =
+    axis_sized e m >>= λ o. axes_sized es o.1 >>= λ os. Some (o.0 ∷ os.0, os.1)
+
+abbrev pub with_sizes : SeenModule → (n : ℕ) → List (Option ℕ) → SeenModule
+with_sizes m n sizes = record m {
+  entry_points = option_map_or
+      (λ point. slice_set m.entry_points n (record point { workgroup_size_overrides = sizes }))
+      (slice_get m.entry_points n) m.entry_points;
+}
+
+-- the overrides along the axes of an entry point, and the module then
+abbrev pub point_sized : Json → SeenModule → Option (List (Option ℕ) × SeenModule)
+point_sized j m = sizes_said j >>= λ es. axes_sized es m
+
+-- the entry points from the n-th on have the sizes that these values say
+abbrev pub points_sized : (n : ℕ) → Items → SeenModule → Option SeenModule
+points_sized n no_items m = Some m
+points_sized n (item j js) m =
+    point_sized j m >>= λ sized. points_sized (n + 1) js (with_sizes sized.1 n sized.0)
+
+abbrev pub sized_by : Option Items → SeenModule → Option SeenModule
+sized_by None m = Some m
+sized_by (Some js) m = points_sized 0 js m
+
+-- ---- a module
+
+unfoldable pub module_said : Json → Option SeenModule
+module_said j = do
+  _ ← members_beside ("types" ∷ "special_types" ∷ "constants" ∷ "overrides" ∷ "global_variables" ∷
+      "global_expressions" ∷ "functions" ∷ "entry_points" ∷ "diagnostic_filters" ∷
+      "diagnostic_filter_leaf" ∷ []) of_module j
+  m ← module_members j
+  sized ← sized_by (list_at (codes "entry_points") j) m
+  filters ← filters_said j
+  Some (record sized { filters = filters })
+
+-- what a text says by its JSON
+unfoldable pub text_module_said : List ℕ → Option SeenModule
+text_module_said text = json_of text >>= module_said
+
+-- ---- a module with what is known of it, or without
+
+pub record SeenKnown : Type 0 where
+  pub its_module : SeenModule
+  pub info : SeenModuleInfo
+
+abbrev pub seen_known : Known → SeenKnown
+seen_known k = record { its_module = seen_module k.«module»; info = seen_module_info k.info }
+
+unfoldable pub known_said : Json → Option SeenKnown
+known_said j = do
+  its_module ← field "module" module_said j
+  info ← field "info" module_info_said j
+  Some (record { its_module = its_module; info = info })
+
+unfoldable pub text_known_said : List ℕ → Option SeenKnown
+text_known_said text = json_of text >>= known_said
+
+pub record SeenGiven : Type 0 where
+  pub its_module : SeenModule
+  pub info : Option SeenModuleInfo
+  pub is_bare : Bool
+
+abbrev pub seen_given : Given → SeenGiven
+seen_given g = record {
+  its_module = seen_module g.«module»;
+  info = option_map seen_module_info g.info;
+  is_bare = g.is_bare;
+}
+
+-- an object without a member `module` or `info` is the module itself
+abbrev pub is_bare : Json → Bool
+is_bare j = is_object j && not (is_some (get (codes "module") j)) && not (is_some (get (codes "info") j))
+
+abbrev pub bare_said : Json → Option SeenGiven
+bare_said j =
+    module_said j >>= λ m. Some (record { its_module = m; info = None; is_bare = true })
+
+abbrev pub held_said : Json → Option SeenGiven
+held_said j = do
+  its_module ← field "module" module_said j
+  info ← option_field "info" module_info_said j
+  Some (record { its_module = its_module; info = info; is_bare = false })
+
+unfoldable pub given_said : Json → Option SeenGiven
+given_said j = if is_bare j then bare_said j else held_said j
+
+unfoldable pub text_given_said : List ℕ → Option SeenGiven
+text_given_said text = json_of text >>= given_said
