@@ -44,8 +44,9 @@ enum yorwethul_status {
 #define YORWETHUL_PORTABLE 2u       /* the text has what standard compilers ask for, as `enable subgroups;` and `let`s for
                                      * operands that stand too deep, and begins with the directives of the module's
                                      * filters of diagnostics */
-#define YORWETHUL_DECIMAL_FLOATS 4u /* floats are written, by the digits that Rust gives them, and names may end in digits, as
-                                     * pass2; else F32, F64 and F16 are refused, and such a name is pass2_ */
+#define YORWETHUL_DECIMAL_FLOATS 4u /* floats are written, by the digits that Rust gives them, operators in constants too, and
+                                     * names may end in digits, as pass2; else F32, F64 and F16 and such operators are
+                                     * refused, and such a name is pass2_ */
 
 /* Each call gives a status. *needed is how many bytes its text has: what was asked for, or why it is not there, in
  * UTF-8, with no 0 after it. If out_length is enough for it, the text stands at the front of out. Else out is as it

@@ -22,9 +22,10 @@ impl Flags {
     /// diagnostics.
     pub const PORTABLE: Flags = Flags(crate::sys::PORTABLE);
 
-    /// Floats are written, by the digits that Rust's formatting gives them, and names may end in
-    /// digits, as `pass2`. Without this flag a module with a literal of a float is refused, as
-    /// `float literal`, and such a name is `pass2_`.
+    /// Floats are written, by the digits that Rust's formatting gives them, operators in constants
+    /// too, and names may end in digits, as `pass2`. Without this flag a module with a literal of a
+    /// float is refused, as `float literal`, one with such an operator as `operator in a constant`,
+    /// and such a name is `pass2_`.
     pub const DECIMAL_FLOATS: Flags = Flags(crate::sys::DECIMAL_FLOATS);
 
     /// No flag.

@@ -106,13 +106,14 @@ module _ (m new : Module)
   abbrev ps : List EntryPoint
   ps = new.entry_points.items
 
-  -- and names may keep their digits, or not
+  -- and names may keep their digits, and constants be computed, or not
   abbrev n : Module
   n = record m {
     global_expressions = es;
     functions = fs;
     entry_points = new.entry_points;
     keeps_digits = new.keeps_digits;
+    computes_constants = new.computes_constants;
   }
 
   function_count : length fs ≡ length m.functions
@@ -443,7 +444,12 @@ pub decimal_is_accepted : (old new : Module) → IsDecimalModule old new → (in
     is_accepted old info ≡ true → is_accepted new info ≡ true
 decimal_is_accepted old new r info h =
     subst (λ (k : Module). is_accepted k info ≡ true)
-    (sym (ap (λ (k : Module). record k { keeps_digits = new.keeps_digits }) r.rest))
+    (sym
+    (ap
+    (λ (k : Module). record k {
+      keeps_digits = new.keeps_digits;
+      computes_constants = new.computes_constants;
+    }) r.rest))
     (all_kept_of old new r.expressions r.functions r.entry_points info h)
 
 -- a module that is accepted is accepted whether its names keep their digits or not
@@ -451,4 +457,11 @@ pub keeping_is_accepted : (m : Module) (keeps : Bool) (info : ModuleInfo) →
     is_accepted m info ≡ true → is_accepted (record m { keeps_digits = keeps }) info ≡ true
 keeping_is_accepted m keeps info h =
     all_kept_of m (record m { keeps_digits = keeps }) (same_expressions m.global_expressions)
+    (same_functions m.functions) (same_entry_points m.entry_points.items) info h
+
+-- and whether operators in its own expressions are written or not
+pub computing_is_accepted : (m : Module) (computes : Bool) (info : ModuleInfo) →
+    is_accepted m info ≡ true → is_accepted (record m { computes_constants = computes }) info ≡ true
+computing_is_accepted m computes info h =
+    all_kept_of m (record m { computes_constants = computes }) (same_expressions m.global_expressions)
     (same_functions m.functions) (same_entry_points m.entry_points.items) info h

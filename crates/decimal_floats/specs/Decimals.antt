@@ -49,6 +49,14 @@ pub record IsDecimalModule (old new : Module) : Type 0 where
 abbrev pub keeping_digits : Module → Module
 keeping_digits m = record m { keeps_digits = true }
 
+-- the module, where operators in its own expressions are written
+abbrev pub computing_constants : Module → Module
+computing_constants m = record m { computes_constants = true }
+
+-- the module as it asks for a text that every compiler takes, its floats left out
+abbrev pub asking_standard : Module → Module
+asking_standard m = computing_constants (keeping_digits m)
+
 -- ---- which literals are still held as their bits: infinities and NaNs, whose bits without the sign
 -- are those of an infinity or more
 

@@ -5,16 +5,19 @@
 //! it has these digits is only tested; what is proved is that each gets one, nothing but literals is
 //! changed, and each has its value as before.
 //!
-//! [`keep_digits`] lets names keep the digits that their labels end in. Both are what the program
-//! `yorwethul` asks for.
+//! [`keep_digits`] lets names keep the digits that their labels end in, and [`compute_constants`] lets
+//! operators in the module's own expressions be written. All three are what the program `yorwethul`
+//! asks for.
 #![tactic(auto)]
 
+mod constants;
 mod decimals;
 mod digits;
 mod laws;
 #[cfg(test)]
 mod tests;
 
+pub use constants::compute_constants;
 pub use decimals::{decimal_literal, floats_to_decimals};
 pub use digits::keep_digits;
 pub use laws::{decimal_literals_keep_their_values, numerals_stay};

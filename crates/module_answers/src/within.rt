@@ -10,7 +10,7 @@ ghost use Rattle.module_answers.specs.Within.{IsUnwritten};
 ghost use Rattle.module_answers.specs.WriteOutcomes.{AnswersWriting};
 ghost use Rattle.module_semantics.specs.acceptance.Accepted.{is_accepted};
 ghost use Rattle.naga_wgsl_out.specs.Within.{unfailed};
-ghost use Rattle.decimal_floats.specs.Decimals.{IsDecimalModule, keeping_digits};
+ghost use Rattle.decimal_floats.specs.Decimals.{IsDecimalModule, asking_standard};
 
 use crate::opening::begun;
 use crate::writing::{WriteOutcome, write, write_decimal};
@@ -83,7 +83,7 @@ pub fn write_decimal_within(
 ) -> Result<WriteOutcome<String>, NoOutcome>
     ensures accepted { IfOk result (λ _. IsTrue (is_accepted «module».old info.old)) }
     ensures decimal { IfOk result (λ _.
-        IsDecimalModule (keeping_digits «module».old) «module».new) }
+        IsDecimalModule (asking_standard «module».old) «module».new) }
     ensures complete { IfOk result (λ w. IsDecimalUnlessWanting w.answer «module».new) }
     ensures counted { IfOk result (λ w. IsReady flags w.answer «module».new info.old info.new) }
     ensures written { IfOk result (λ w. AnswersWriting flags «module».new info.new
@@ -93,7 +93,7 @@ pub fn write_decimal_within(
     ensures unwritten { IfErr result (IsUnwritten flags bound «module».old «module».new info.old
         info.new) }
     ensures too_long { IfErr result (λ e. e ≡ NoOutcome.TooLong →
-        IsDecimalModule (keeping_digits «module».old) «module».new) }
+        IsDecimalModule (asking_standard «module».old) «module».new) }
 {
     let opening = begun(alloc, module, info, flags, bound)?;
     match write_decimal(alloc, module, info, flags, opening) {

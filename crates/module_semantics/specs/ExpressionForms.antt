@@ -2,24 +2,29 @@
 -- are made.
 --
 -- Throughout, m is a module, f a function, es are its expressions, e is one, k is what is known of
--- one, h is a handle, a an argument, r a result, s are scalars, and t is a type.
+-- one, h is a handle, a an argument, r a result, s are scalars or one of them, c is a constant, o an
+-- override, and t is a type.
 use Rattle.std.specs.Prelude.{ℕ, zero, suc, Bool, true, false, ◌&&◌, ◌||◌, List, length}
 use Rattle.std.specs.Prelude.{Option, nat_lt, slice_get}
 use Rattle.std.specs.List.{list_all}
-use Rattle.std.specs.Option.{option_map_or, is_some}
+use Rattle.std.specs.Option.{option_and_then, option_map_or, is_some}
 use Rattle.naga_ir.specs.declared.expression.Expression.{Expression}
 use Rattle.naga_ir.specs.declared.expression.Expression.TheVariants.{Literal, Constant, Override}
 use Rattle.naga_ir.specs.declared.expression.Expression.TheVariants.{GlobalVariable, ZeroValue}
 use Rattle.naga_ir.specs.declared.expression.Expression.TheVariants.{Compose, Splat, AccessIndex}
-use Rattle.naga_ir.specs.declared.expression.Expression.TheVariants.{As}
+use Rattle.naga_ir.specs.declared.expression.Expression.TheVariants.{As, Binary, Math}
+use Rattle.naga_ir.specs.declared.expression.Expression.TheVariants.{Relational, Select, Unary}
 use Rattle.naga_ir.specs.declared.expression.Expression.TheVariants.{CooperativeLoad, ImageSample}
 use Rattle.naga_ir.specs.declared.expression.Expression.TheVariants.{ImageQuery}
 use Rattle.naga_ir.specs.declared.expression.Expression.TheVariants.{RayQueryProceedResult}
 use Rattle.naga_ir.specs.declared.expression.Literal.{Literal as LiteralValue}
 use Rattle.naga_ir.specs.declared.expression.Literal.TheVariants as literal
 use Rattle.naga_ir.specs.declared.module.Module.{Module}
+use Rattle.naga_ir.specs.Literals.{literal_scalar}
+use Rattle.naga_ir.specs.Operands.{expression_operands}
 use Rattle.naga_ir.specs.declared.types.CooperativeRole.{CooperativeRole}
 use Rattle.naga_ir.specs.declared.types.CooperativeSize.{CooperativeSize}
+use Rattle.naga_ir.specs.declared.types.Scalar.{Scalar}
 use Rattle.naga_ir.specs.declared.types.ScalarKind.{ScalarKind}
 use Rattle.naga_ir.specs.declared.types.Type_.{Type_}
 use Rattle.naga_ir.specs.declared.types.TypeInner.{TypeInner}
@@ -31,10 +36,12 @@ use Rattle.decimal_numerals.specs.Denoted.{is_in_range}
 use Rattle.module_semantics.specs.AlikeTypes.{has_type_form}
 use Rattle.module_semantics.specs.Conversions.{conversion_target}
 use Rattle.module_semantics.specs.ExpressionOperators.{has_parts, own_operator, pointee_scalar}
+use Rattle.module_semantics.specs.ExpressionOperators.{type_with}
 use Rattle.module_semantics.specs.OperatorTable.{has_word}
 use Rattle.module_semantics.specs.Sampling.{own_offset_has_form, sampling_has_form}
 use Rattle.module_semantics.specs.Undeclared.{is_spellable, part_has_form_at}
 use Rattle.module_semantics.specs.Undeclared.{whole_known}
+use Rattle.wgsl_words.specs.Words.{scalar_word}
 
 -- ---- literals
 -- the literal is of `bool` or of one of these integer types, or a numeral of a floating-point type
@@ -77,9 +84,50 @@ abbrev pub constant_has_form_over : Module → (own : ℕ → Bool) → (handle 
 constant_has_form_over m own h =
     option_map_or (λ c. is_some c.name || own c.init) (slice_get m.constants h) false
 
+-- The scalar that a type is, if it is one.
+abbrev pub scalar_alone : TypeInner → Option Scalar
+scalar_alone (inner.Scalar s) = Some s
+scalar_alone _ = None
+
+abbrev pub scalar_at : Module → (ty : ℕ) → Option Scalar
+scalar_at m ty = option_and_then scalar_alone (type_with m.types ty)
+
+-- The scalar that the module itself tells of one of its own expressions: that of a literal, and the
+-- type of a constant, an override or a zero value, where that is a scalar. Of others it tells none:
+-- what an operator gives, acceptance takes from what is known of the module.
+abbrev pub own_scalar : Module → Expression → Option Scalar
+own_scalar m (Literal value) = Some (literal_scalar value)
+own_scalar m (Constant handle) =
+    option_and_then (λ c. scalar_at m c.ty) (slice_get m.constants handle)
+own_scalar m (Override handle) =
+    option_and_then (λ o. scalar_at m o.ty) (slice_get m.overrides handle)
+own_scalar m (ZeroValue ty) = scalar_at m ty
+own_scalar m _ = None
+
+-- that of the expression with this handle
+abbrev pub told_scalar : Module → ℕ → Option Scalar
+told_scalar m h = option_and_then (own_scalar m) (slice_get m.global_expressions h)
+
+-- An operator of one of the module's own expressions has a form, whatever its operands are: a sign,
+-- a choice, what WGSL has a word for, or a conversion from a scalar that the module tells to
+-- another, both of which WGSL has words for. An index, a part or several components have none here.
+abbrev pub operator_has_form : Module → Expression → Bool
+operator_has_form m (Unary op operand) = true
+operator_has_form m (Binary op left right) = true
+operator_has_form m (Select condition accept reject) = true
+operator_has_form m (Relational fun argument) =
+    option_map_or has_word (own_operator (Relational fun argument)) false
+operator_has_form m (Math fun arg arg1 arg2 arg3) =
+    option_map_or has_word (own_operator (Math fun arg arg1 arg2 arg3)) false
+operator_has_form m (As operand kind convert) =
+    option_map_or
+    (λ s. is_some (scalar_word s) && converts m.types kind convert (inner.Scalar s))
+    (told_scalar m operand) false
+operator_has_form m _ = false
+
 -- One of the module's own expressions is written, over which of those in front of it are: a
 -- literal, a constant, an override, a zero value, a value of a type from its parts, or a vector of
--- one value.
+-- one value; and, where the module asks for it, an operator.
 abbrev pub global_has_form_over : Module → (own : ℕ → Bool) → Expression → Bool
 global_has_form_over m own (Literal value) = literal_has_form value
 global_has_form_over m own (Constant handle) = constant_has_form_over m own handle
@@ -88,7 +136,8 @@ global_has_form_over m own (ZeroValue ty) = is_spellable m (Handle ty)
 global_has_form_over m own (Compose ty components) =
     is_spellable m (Handle ty) && list_all own components.items
 global_has_form_over m own (Splat size value) = own value
-global_has_form_over m own _ = false
+global_has_form_over m own e =
+    m.computes_constants && (operator_has_form m e && list_all own (expression_operands e))
 
 -- the same of a handle, at most so many levels deep
 abbrev pub global_has_form_within : (levels : ℕ) → Module → ℕ → Bool

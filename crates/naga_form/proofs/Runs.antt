@@ -32,7 +32,7 @@ use Rattle.naga_form.specs.Declarations.{program_under, written_program}
 use Rattle.naga_form.specs.Functions.{functions_under}
 use Rattle.naga_form.proofs.statements.Abstraction.{function_reads}
 use Rattle.naga_form.proofs.statements.AcceptedFunctions.{functions_counted, of_number}
-use Rattle.naga_form.proofs.declarations.AcceptedGroups.{declarations_are}
+use Rattle.naga_form.proofs.operators.ToldScalars.{GlobalsAreKnown, globals_are_known}
 use Rattle.naga_form.proofs.names.DeclaredNames.{one_vocabulary}
 use Rattle.naga_form.proofs.names.ExpressionNames.{expression_names_are}
 use Rattle.naga_form.proofs.ModuleFits.{module_fits_under}
@@ -49,7 +49,7 @@ form_functions-map [] = refl
 form_functions-map (n ∷ ns) = ap (λ fs. form_function n ∷ fs) (form_functions-map ns)
 
 functions_read : (flags : WriterFlags) (named : LabelNames) (m : Module) (info : ModuleInfo) →
-    length m.global_expressions ≡ length info.const_expression_types.items →
+    GlobalsAreKnown m info →
     (g : ℕ) (fs : List ir_function.Function) (ess : List (List ExpressionInfo)) →
     ((i : ℕ) (f : ir_function.Function) (es : List ExpressionInfo) → slice_get fs i ≡ Some f →
     slice_get ess i ≡ Some es → WrittenHaveForms (annotates_types flags) m info f es) →
@@ -74,7 +74,7 @@ pub reads_as_shapes_under : (m : Module) (info : ModuleInfo) (flags : WriterFlag
     form_module (module_shape m info) (outer_names (module_names m) m)
     (namings_under named (module_names m) m info)
 reads_as_shapes_under m info flags named accepted declarations have =
-    let own = (declarations_are m info accepted).size in
+    let own = globals_are_known m info accepted in
     let listed =
     namings_from named (module_names m) m 0
     (function_shapes m info (all_functions m) (all_infos info)) in

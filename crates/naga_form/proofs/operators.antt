@@ -10,6 +10,7 @@ pub mod BuiltTrees
 pub mod CalledWords
 pub mod ComputedTrees
 pub mod ConsistentModules
+mod ConstantExamples
 pub mod ConstantForms
 pub mod ConstantTrees
 pub mod Images
@@ -32,5 +33,6 @@ pub mod SoundGroups
 pub mod SoundOperators
 pub mod SpelledSignatures
 pub mod SpelledWords
+pub mod ToldScalars
 pub mod TreeWords
 pub mod TypedWords

@@ -2,6 +2,7 @@
 pub mod AlikeLaw
 pub mod AlikeNumbers
 pub mod AlikeParts
+pub mod AlikeScalars
 pub mod AlikeTypes
 pub mod LayoutParts
 pub mod LayoutWords

@@ -1,22 +1,29 @@
--- How a constant is written out where no name stands for it: over the forms of its parts.
+-- How a constant is written out where no name stands for it: over the forms of its parts. In one of
+-- a module's own expressions an operator is written as in functions, by what the module itself
+-- tells of its operand's type, if it is called by that.
 --
 -- Throughout, a is the context of expressions es, t are the names that types are spelled with,
 -- constant gives the form of a constant of the module, e is an expression, h a handle, c a
--- constant, and m a module.
+-- constant, s a scalar, and m a module.
 use Rattle.std.specs.Prelude.{ℕ, zero, suc, false, List, [], ◌∷◌, length, map, slice_get, None}
-use Rattle.std.specs.Prelude.{if◌then◌else◌}
-use Rattle.std.specs.Option.{is_some, option_map_or}
-use Rattle.module_semantics.specs.ExpressionOperators.{ExpressionContext, constructor}
+use Rattle.std.specs.Prelude.{if◌then◌else◌, Option}
+use Rattle.std.specs.Option.{is_some, option_map, option_map_or}
+use Rattle.module_semantics.specs.ExpressionForms.{told_scalar}
+use Rattle.module_semantics.specs.ExpressionOperators.{ExpressionContext, applied_operator, constructor}
 use Rattle.module_semantics.specs.Names.{constant_name, module_names}
 use Rattle.module_semantics.specs.OperatorTable.{Splat}
 use Rattle.module_semantics.specs.ExpressionContexts.{expression_context}
 use Rattle.naga_form.specs.Literals.{literal_form}
 use Rattle.naga_form.specs.Operators.{applied_form, notation}
+use Rattle.naga_form.specs.OperatorTypes.{operator_type}
 use Rattle.naga_form.specs.TypeTrees.{type_tree}
-use Rattle.naga_info.specs.declared.info.TypeResolution.TheVariants.{Handle}
+use Rattle.naga_info.specs.declared.info.TypeResolution.{TypeResolution}
+use Rattle.naga_info.specs.declared.info.TypeResolution.TheVariants.{Handle, Value}
+use Rattle.naga_ir.specs.Operands.{expression_operands}
 use Rattle.naga_ir.specs.declared.expression.Expression as ir
 use Rattle.naga_ir.specs.declared.expression.Expression.TheVariants as expression
 use Rattle.naga_ir.specs.declared.module.Module.{Module}
+use Rattle.naga_ir.specs.declared.types.TypeInner.TheVariants as inner
 use Rattle.naga_spelling.specs.Contexts.{Names as TypeNames}
 use Rattle.wgsl_text.specs.Expressions.{Expression, Constant, Name}
 use Rattle.wgsl_text.specs.Literals.{Truth}
@@ -59,6 +66,30 @@ abbrev pub written_out : ExpressionContext → TypeNames → (constant : ℕ →
 written_out a t constant es h = constant_form_within (suc h) a t constant es h
 
 -- ---- a module's own
+-- the context of its own expressions: of each is known what the module itself tells
+abbrev pub told_type : Module → ℕ → Option TypeResolution
+told_type m h = option_map (λ s. Value (inner.Scalar s)) (told_scalar m h)
+
+abbrev pub told_context : Module → ExpressionContext
+told_context m = expression_context m (told_type m)
+
+-- an operator, over the forms of its operands
+abbrev pub operated_form : ExpressionContext → TypeNames → (part : ℕ → Expression) → ir.Expression →
+    Expression
+operated_form a t part e =
+    option_map_or
+    (λ op. applied_form (notation (operator_type a t e) op) (map part (expression_operands e)))
+    (applied_operator a e) no_constant_form
+
+-- an expression, over the forms of its parts
+abbrev pub global_form_over : Module → TypeNames → (constant part : ℕ → Expression) → ir.Expression →
+    Expression
+global_form_over m t constant part (expression.Literal value) = Constant (literal_form value)
+global_form_over m t constant part (expression.Constant handle) = constant handle
+global_form_over m t constant part (expression.Override handle) = Name (t.override_name handle)
+global_form_over m t constant part (expression.ZeroValue ty) = built_form (told_context m) t ty 0 []
+global_form_over m t constant part e = operated_form (told_context m) t part e
+
 -- a constant is written as its name, and one without a name as its initialiser is
 abbrev pub constant_form_by : Module → (own : ℕ → Expression) → ℕ → Expression
 constant_form_by m own h =
@@ -72,8 +103,7 @@ abbrev pub global_form_within : (levels : ℕ) → Module → TypeNames → ℕ 
 global_form_within zero m t h = no_constant_form
 global_form_within (suc levels) m t h =
     let own = global_form_within levels m t in
-    option_map_or
-    (constant_form_over (expression_context m (λ x. None)) t (constant_form_by m own) own)
+    option_map_or (global_form_over m t (constant_form_by m own) own)
     (slice_get m.global_expressions h) no_constant_form
 
 -- the same of one before which its operands and the initialisers of the constants that it names

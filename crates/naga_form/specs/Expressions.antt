@@ -12,10 +12,6 @@ use Rattle.naga_back.specs.declared.flags.WriterFlags.{WriterFlags}
 use Rattle.std.specs.Option.{option_map, option_map_or, option_and_then, is_some, option_to_list}
 use Rattle.naga_ir.specs.declared.expression.Expression as ir
 use Rattle.naga_ir.specs.declared.expression.Expression.TheVariants as expression
-use Rattle.naga_ir.specs.declared.types.CooperativeRole.{CooperativeRole}
-use Rattle.naga_ir.specs.declared.types.CooperativeSize.{CooperativeSize}
-use Rattle.naga_ir.specs.declared.types.Scalar.{Scalar}
-use Rattle.naga_ir.specs.declared.types.ScalarKind.{ScalarKind}
 use Rattle.naga_ir.specs.declared.types.TypeInner.{TypeInner}
 use Rattle.naga_ir.specs.declared.types.TypeInner.TheVariants as inner
 use Rattle.wgsl_text.specs.Expressions.{Expression, Constant, Name, Member, AddressOf, Dereference}
@@ -24,10 +20,9 @@ use Rattle.wgsl_text.specs.Literals.{Truth}
 use Rattle.naga_form.specs.Literals.{literal_form}
 use Rattle.shader_runs.specs.Scope.{Availability, Bound, Handles, Naming}
 use Rattle.shader_runs.specs.Value.{Selector, MemberNamed, ElementAt}
-use Rattle.module_semantics.specs.Conversions.{conversion_target, keeps_bits}
 use Rattle.module_semantics.specs.ExpressionOperators.{ExpressionContext, applied_operator}
 use Rattle.module_semantics.specs.ExpressionOperators.{constructor, is_depth_image, level_of}
-use Rattle.module_semantics.specs.ExpressionOperators.{load_operator, pointee_scalar, type_known}
+use Rattle.module_semantics.specs.ExpressionOperators.{load_operator, type_known}
 use Rattle.module_semantics.specs.ExpressionShapes.{ModuleDeclarations, part_selector, swizzle_letters}
 use Rattle.module_semantics.specs.OperatorTable.{Operator, WithoutForm, PartAt, is_zero_by_name}
 use Rattle.module_semantics.specs.OperatorTable.{zero_is_written}
@@ -35,8 +30,8 @@ use Rattle.module_semantics.specs.ExpressionContexts.{declared, types_known}
 pub use Rattle.module_semantics.specs.ExpressionContexts.{is_handle_variable}
 use Rattle.module_semantics.specs.Types.{type_names}
 use Rattle.naga_spelling.specs.Contexts.{Names as TypeNames}
-use Rattle.wgsl_text.specs.Types.{TypeSpecifier, of_one}
-use Rattle.naga_form.specs.TypeTrees.{inner_tree, type_tree}
+use Rattle.wgsl_text.specs.Types.{TypeSpecifier}
+use Rattle.naga_form.specs.TypeTrees.{type_tree}
 use Rattle.naga_info.specs.declared.info.TypeResolution.TheVariants.{Handle}
 use Rattle.naga_info.specs.declared.info.ExpressionInfo.{ExpressionInfo}
 use Rattle.naga_info.specs.declared.info.ModuleInfo.{ModuleInfo}
@@ -46,6 +41,8 @@ use Rattle.naga_ir.specs.declared.module.Module.{Module}
 use Rattle.naga_form.specs.ConstantForms.{written_constant_form, written_out}
 use Rattle.naga_form.specs.Images.{sampling_form}
 use Rattle.naga_form.specs.Operators.{notation, applied_form}
+pub use Rattle.naga_form.specs.OperatorTypes.{cast_tree, conversion_tree, load_tree, matrix_tree}
+pub use Rattle.naga_form.specs.OperatorTypes.{operator_type, scalar_pointed}
 
 -- a plain form: a value or a reference
 pub data PlainForm : Type 0 where
@@ -73,44 +70,6 @@ abbrev pub applied_plain :
 applied_plain otherwise type operand hs (Some op) =
     ValueForm (applied_form (notation type op) (value_forms operand hs))
 applied_plain otherwise type operand hs None = otherwise
-
--- what a conversion to this type is called by: the type, or `bitcast` to it where bits are kept
-abbrev pub cast_tree : (bits : Bool) → TypeSpecifier → TypeSpecifier
-cast_tree false t = t
-cast_tree true t = of_one (codes "bitcast") t
-
--- the same of a value of this type, if that is converted to what has a form
-abbrev pub conversion_tree : TypeNames → ScalarKind → (convert : Option ℕ) → TypeInner →
-    Option TypeSpecifier
-conversion_tree t kind convert it =
-    option_map (cast_tree (keeps_bits it convert))
-    (option_and_then (inner_tree t) (conversion_target it kind convert))
-
--- a cooperative matrix of this type is loaded by a word that takes the type, and says whether the
--- matrix lies there row by row
-abbrev pub load_tree : (row_major : Bool) → TypeSpecifier → TypeSpecifier
-load_tree false t = of_one (codes "coopLoad") t
-load_tree true t = of_one (codes "coopLoadT") t
-
--- the same of a matrix of these scalars, if its type has a form
-abbrev pub matrix_tree : TypeNames → (columns rows : CooperativeSize) → CooperativeRole →
-    (row_major : Bool) → Option Scalar → Option TypeSpecifier
-matrix_tree t columns rows role row_major s =
-    option_map (load_tree row_major)
-    (option_and_then (λ s. inner_tree t (inner.CooperativeMatrix columns rows s role)) s)
-
--- the scalars that the expression with this handle points to
-abbrev pub scalar_pointed : ExpressionContext → ℕ → Option Scalar
-scalar_pointed a pointer = option_and_then (pointee_scalar a.types) (type_known a pointer)
-
--- the type by which the operator of an expression is spelled, if it is one that has a form
-abbrev pub operator_type : ExpressionContext → TypeNames → ir.Expression → Option TypeSpecifier
-operator_type a t (expression.Compose ty components) = type_tree t ty
-operator_type a t (expression.As operand kind convert) =
-    option_and_then (conversion_tree t kind convert) (type_known a operand)
-operator_type a t (expression.CooperativeLoad columns rows role place) =
-    matrix_tree t columns rows role place.row_major (scalar_pointed a place.pointer)
-operator_type a t _ = None
 
 -- what has no form, and a handle without an expression
 abbrev pub no_form : PlainForm

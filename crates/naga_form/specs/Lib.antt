@@ -8,6 +8,7 @@ pub mod Images
 pub mod Laws
 pub mod Literals
 pub mod Operators
+pub mod OperatorTypes
 pub mod Readable
 pub mod Statements
 pub mod TypeTrees

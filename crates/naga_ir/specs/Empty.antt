@@ -35,3 +35,4 @@ pub record IsEmptyModule (m : Module) : Type 0 where
   pub no_diagnostic_filters : m.diagnostic_filters ≡ []
   pub no_diagnostic_filter_leaf : m.diagnostic_filter_leaf ≡ None
   pub naga_names : m.keeps_digits ≡ false
+  pub no_computed_constants : m.computes_constants ≡ false

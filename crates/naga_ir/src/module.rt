@@ -256,6 +256,13 @@ pub struct Module {
     /// Whether a name keeps the digits that its label ends in, as `pass2` does, where no other name
     /// can be the same. naga has no such field, and writes `pass2_`.
     pub keeps_digits: bool,
+    /// Whether an operator in one of the module's own expressions is written, as that of an override
+    /// `(block * block)` is, where else such a module is refused. naga has no such field.
+    ///
+    /// This one says so of constants, overrides, variables and lengths of arrays. It is not that of
+    /// names, since each may be asked for alone: the one changes how texts look, the other which
+    /// modules have texts.
+    pub computes_constants: bool,
 }
 
 impl Module {
@@ -284,6 +291,7 @@ impl Module {
             diagnostic_filters: Arena::new(alloc),
             diagnostic_filter_leaf: None,
             keeps_digits: false,
+            computes_constants: false,
         }
     }
 }

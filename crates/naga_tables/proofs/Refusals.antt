@@ -13,6 +13,7 @@ use Rattle.std.proofs.Math.Bool.{and_comm}
 use Rattle.module_semantics.specs.ExpressionForms.{constant_has_form, expression_has_form}
 use Rattle.module_semantics.specs.ExpressionForms.{expression_has_own_form, global_has_form}
 use Rattle.module_semantics.specs.ExpressionForms.{global_has_form_over, global_has_form_within}
+use Rattle.module_semantics.specs.ExpressionForms.{operator_has_form}
 use Rattle.module_semantics.specs.ExpressionOperators.{own_operator}
 use Rattle.module_semantics.specs.OperatorTable.{has_word}
 use Rattle.module_semantics.specs.Sampling.{own_offset_has_form}
@@ -20,6 +21,7 @@ use Rattle.module_semantics.specs.Undeclared.{is_spellable}
 use Rattle.naga_info.specs.declared.info.ExpressionInfo.{ExpressionInfo}
 use Rattle.naga_info.specs.declared.info.TypeResolution.{TypeResolution}
 use Rattle.naga_info.specs.declared.info.TypeResolution.TheVariants.{Handle}
+use Rattle.naga_ir.specs.Operands.{expression_operands}
 use Rattle.naga_ir.specs.declared.expression.Expression.{Expression}
 use Rattle.naga_ir.specs.declared.expression.Expression.TheVariants as expression
 use Rattle.naga_ir.specs.declared.module.Constant.{Constant}
@@ -70,6 +72,14 @@ module _ (m : Module) (own : ℕ → Option Construct) (has : ℕ → Bool)
       by None = refl
       by (Some k) = named (is_some k.name) k
 
+  -- an operator, where the module asks for it and it has a form
+  operator_over : (asked formed : Bool) (hs : List ℕ) →
+      is_none (if asked && formed then first_refusal own hs else Some construct.ConstantOperator) ≡
+      (asked && (formed && list_all has hs))
+  operator_over true true hs = first_is hs
+  operator_over true false hs = refl
+  operator_over false formed hs = refl
+
   global_over : (e : Expression) → is_none (global_refusal_over m own e) ≡ global_has_form_over m has e
   global_over (expression.Literal value) = unless_is _ _
   global_over (expression.Constant c) = constant_over c
@@ -79,7 +89,9 @@ module _ (m : Module) (own : ℕ → Option Construct) (has : ℕ → Bool)
       ∙ ap₂ (λ a b. a && b) (first_is components.items) (unless_is (is_spellable m (Handle ty)) _)
       ∙ and_comm (list_all has components.items) (is_spellable m (Handle ty))
   global_over (expression.Splat size value) = same value
-  global_over _ = refl
+  global_over (expression.Override o) = refl
+  global_over e =
+      operator_over m.computes_constants (operator_has_form m e) (expression_operands e)
 
 within_is : (m : Module) (levels h : ℕ) →
     is_none (global_refusal_within levels m h) ≡ global_has_form_within levels m h

@@ -19,6 +19,7 @@ use Rattle.naga_form.proofs.declarations.OwnExpressions.{initialiser_within, own
 use Rattle.naga_info.specs.declared.info.ModuleInfo.{ModuleInfo}
 use Rattle.module_semantics.specs.Undeclared.{is_spellable}
 use Rattle.module_semantics.specs.ExpressionForms.{constant_has_form_over, global_has_form_over}
+use Rattle.module_semantics.specs.ExpressionForms.{operator_has_form}
 use Rattle.module_semantics.specs.Premises.{OperandsStandBefore}
 use Rattle.module_semantics.specs.WrittenOut.{is_written_out, written_out_over, written_out_within}
 use Rattle.naga_ir.specs.Operands.{expression_operands}
@@ -125,7 +126,12 @@ global_same m ordered h (expression.Compose ty components) at a b same =
     (ordered.operands h (expression.Compose ty components) at) same)
 global_same m ordered h (expression.Splat size value) at a b same =
     same value (ordered.operands h (expression.Splat size value) at).0
-global_same m ordered h _ at a b same = refl
+global_same m ordered h (expression.Literal value) at a b same = refl
+global_same m ordered h (expression.Override o) at a b same = refl
+global_same m ordered h (expression.ZeroValue ty) at a b same = refl
+global_same m ordered h e at a b same =
+    ap (λ all. m.computes_constants && (operator_has_form m e && all))
+    (list_same a b h (expression_operands e) (ordered.operands h e at) same)
 
 -- ---- by what they are refused
 -- a constant whose initialiser stands below
@@ -159,7 +165,15 @@ refused_same m ordered h (expression.Compose ty components) at a b same =
     (ordered.operands h (expression.Compose ty components) at) same)
 refused_same m ordered h (expression.Splat size value) at a b same =
     same value (ordered.operands h (expression.Splat size value) at).0
-refused_same m ordered h _ at a b same = refl
+refused_same m ordered h (expression.Literal value) at a b same = refl
+refused_same m ordered h (expression.Override o) at a b same = refl
+refused_same m ordered h (expression.ZeroValue ty) at a b same = refl
+refused_same m ordered h e at a b same =
+    ap
+    (λ first.
+    if m.computes_constants && operator_has_form m e then first
+    else Some construct.ConstantOperator)
+    (first_same a b h (expression_operands e) (ordered.operands h e at) same)
 
 abbrev pub no_constant : Option Construct
 no_constant = Some construct.ConstantOperator

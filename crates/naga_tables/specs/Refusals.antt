@@ -6,11 +6,11 @@
 -- what each of the module's own expressions is refused, e is an expression, known what is known of
 -- the types of those of its function, and h the handle of one.
 use Rattle.std.specs.Prelude.{ℕ, zero, suc, Bool, true, false, List, [], ◌∷◌, Option, Some, None}
-use Rattle.std.specs.Prelude.{if◌then◌else◌, length, nat_lt, slice_get}
+use Rattle.std.specs.Prelude.{◌&&◌, if◌then◌else◌, length, nat_lt, slice_get}
 use Rattle.std.specs.Option.{is_some, option_and_then, option_map_or, option_or}
 use Rattle.module_semantics.specs.Conversions.{conversion_target}
 use Rattle.module_semantics.specs.ExpressionForms.{converts, known_passes, literal_has_form}
-use Rattle.module_semantics.specs.ExpressionForms.{loads_matrix, part_has_form}
+use Rattle.module_semantics.specs.ExpressionForms.{loads_matrix, operator_has_form, part_has_form}
 use Rattle.module_semantics.specs.ExpressionOperators.{has_parts, own_operator, pointee_scalar}
 use Rattle.module_semantics.specs.LackingScalars.{lacking_scalar}
 use Rattle.module_semantics.specs.OperatorTable.{has_word}
@@ -20,6 +20,7 @@ use Rattle.naga_info.specs.Resolution.{inner_of}
 use Rattle.naga_info.specs.declared.info.ExpressionInfo.{ExpressionInfo}
 use Rattle.naga_info.specs.declared.info.TypeResolution.{TypeResolution}
 use Rattle.naga_info.specs.declared.info.TypeResolution.TheVariants.{Handle}
+use Rattle.naga_ir.specs.Operands.{expression_operands}
 use Rattle.naga_ir.specs.declared.expression.Expression.{Expression}
 use Rattle.naga_ir.specs.declared.expression.Expression.TheVariants as expression
 use Rattle.naga_ir.specs.declared.expression.Literal.{Literal}
@@ -76,8 +77,9 @@ constant_refusal_over m own c =
     option_map_or (λ k. if is_some k.name then None else own k.init) (slice_get m.constants c)
     (Some construct.ConstantOperator)
 
--- By what stands before it: as the first of its operands that has no form; or else for the type of
--- which it makes a value; or as what is no constant.
+-- By what stands before it: as the first of its operands that has no form, if it is a composition, a
+-- splat or an operator that the module asks for; or else for the type of which it makes a value; or
+-- as what is no constant.
 abbrev pub global_refusal_over : Module → (own : ℕ → Option Construct) → Expression →
     Option Construct
 global_refusal_over m own (expression.Literal value) = literal_refusal value
@@ -87,7 +89,9 @@ global_refusal_over m own (expression.ZeroValue ty) = type_refusal m (Handle ty)
 global_refusal_over m own (expression.Compose ty components) =
     option_or (first_refusal own components.items) (type_refusal m (Handle ty))
 global_refusal_over m own (expression.Splat size value) = own value
-global_refusal_over m own e = Some construct.ConstantOperator
+global_refusal_over m own e =
+    if m.computes_constants && operator_has_form m e then first_refusal own (expression_operands e)
+    else Some construct.ConstantOperator
 
 -- the same of a handle, at most so many levels deep
 abbrev pub global_refusal_within : (levels : ℕ) → Module → ℕ → Option Construct

@@ -149,11 +149,16 @@ fn relational_refusal(fun: RelationalFunction) -> Option<Construct>
     ensures { result
         ≡ unless (is_some (relational_word fun)) (construct.RelationalFunction fun) }
 {
+    unless(relational_has_word(fun), Construct::RelationalFunction(fun))
+}
+
+/// Whether WGSL has a word for it: for one that tests truth values.
+pub(crate) fn relational_has_word(fun: RelationalFunction) -> bool
+    ensures { result ≡ is_some (relational_word fun) }
+{
     match fun {
-        RelationalFunction::All | RelationalFunction::Any => None,
-        RelationalFunction::IsNan | RelationalFunction::IsInf => {
-            Some(Construct::RelationalFunction(fun))
-        }
+        RelationalFunction::All | RelationalFunction::Any => true,
+        RelationalFunction::IsNan | RelationalFunction::IsInf => false,
     }
 }
 

@@ -6,9 +6,11 @@ pub mod declarations;
 pub mod forms;
 mod lacking;
 pub mod marks;
+pub mod operators;
 pub mod single_types;
 pub mod tables;
 
 pub use declarations::{DeclarationPosition, unsupported_declaration, unsupported_head};
 pub use forms::{pointee_scalar, refused_expression, whole_known};
+pub use operators::{operator_has_form, told_scalar};
 pub use tables::ModuleTables;

@@ -9,6 +9,7 @@ ghost use Rattle.module_semantics.specs.Layouts.{layout_in, module_rule};
 ghost use Rattle.module_semantics.specs.Undeclared.{handle_names_undeclared, is_spellable};
 ghost use Rattle.module_semantics.specs.Undeclared.{is_undeclared, names_undeclared};
 ghost use Rattle.naga_info.specs.declared.info.TypeResolution.TheVariants.{Handle as OfHandle};
+ghost use Rattle.naga_ir.specs.Operands.{expression_operands};
 ghost use Rattle.naga_layout.specs.Tables.{cell_at, mark_at};
 ghost use Rattle.naga_layout.specs.Types.{arrays_are_kept, kept_struct, placed_members};
 ghost use Rattle.naga_tables.specs.Marks.{MarksAlso, is_marked};
@@ -30,6 +31,7 @@ ghost use Rattle.wgsl_layout.specs.Faults.{first_fault};
 use crate::forms::literal_refusal;
 use crate::lacking::lacking_scalar;
 use crate::marks::{is_marked, mark, mark_present, no_marks};
+use crate::operators::operator_has_form;
 use crate::single_types::{base_type, has_type_form_alone};
 use naga_info::TypeResolution;
 use naga_ir::{
@@ -546,14 +548,20 @@ fn global_refusal_over(
         Expression::Constant(constant) => constant_refusal_over(cells, module, *constant),
         Expression::Override(_) => None,
         Expression::ZeroValue(ty) => handle_refusal(naming, type_forms, module, *ty),
-        Expression::Compose { ty, components } => {
-            match first_refusal(cells, components.as_slice()) {
+        Expression::Compose { ty, .. } => {
+            match first_refusal(cells, expression) {
                 Some(construct) => Some(construct),
                 None => handle_refusal(naming, type_forms, module, *ty),
             }
         }
         Expression::Splat { value, .. } => refusal_at(cells, *value),
-        _ => Some(Construct::ConstantOperator),
+        _ => {
+            if module.computes_constants && operator_has_form(module, expression) {
+                first_refusal(cells, expression)
+            } else {
+                Some(Construct::ConstantOperator)
+            }
+        }
     }
 }
 
@@ -576,12 +584,12 @@ fn constant_refusal_over(
     }
 }
 
-/// By what the first of these is refused that is refused.
-fn first_refusal(cells: &[Option<Construct>], handles: &[Handle<Expression>]) -> Option<Construct>
-    ensures { result ≡ first_refusal (refusal_at cells.now) handles.now }
+/// By what the first of its operands is refused that is refused.
+fn first_refusal(cells: &[Option<Construct>], expression: &Expression) -> Option<Construct>
+    ensures { result ≡ first_refusal (refusal_at cells.now) (expression_operands expression.now) }
 {
-    for handle in handles {
-        if let Some(construct) = refusal_at(cells, *handle) {
+    for operand in expression.operands() {
+        if let Some(construct) = refusal_at(cells, operand) {
             return Some(construct);
         }
     }

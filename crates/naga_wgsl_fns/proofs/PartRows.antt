@@ -15,6 +15,8 @@ use Rattle.naga_ir.specs.declared.types.VectorSize.TheVariants.{Bi, Tri, Quad}
 use Rattle.module_semantics.specs.ExpressionShapes.{letter, swizzle_letters, part_selector}
 use Rattle.naga_scope.specs.declared.points.Availability.{Availability}
 use Rattle.naga_words.specs.Output.{joined_texts}
+use Rattle.naga_wgsl_shared.proofs.RepresentativeRows.{called_unsigned}
+use Rattle.naga_wgsl_shared.specs.Constants.{constant_at}
 use Rattle.naga_wgsl_fns.specs.declared.functions.FunctionText.{FunctionText}
 use Rattle.naga_wgsl_fns.specs.Expressions.{base_text, form_at, is_signed, letter_at, member_text}
 use Rattle.naga_wgsl_fns.specs.Expressions.{parenthesized_text, value_text, accessed_base, index_text}
@@ -247,11 +249,6 @@ unfolding joined_texts
 base_unsigned f table handle is =
     sym (base_row f table handle false is ∙ append-nil (value_text f table handle))
 
--- what is called starts with no operator
-called_unsigned : (op : Operator) → IsCalled op → (type : Option TypeSpecifier)
-    (es : List tree.Expression) → is_signed (applied_form (notation type op) es) ≡ false
-called_unsigned op called type es = ap (λ n. is_signed (applied_form n es)) (called type)
-
 -- a reference starts with no operator
 applied_unsigned : (one : tree.Expression) (type : Option TypeSpecifier) (operand : ℕ → PlainForm)
     (hs : List ℕ) (o : Option Operator) →
@@ -352,68 +349,22 @@ base_unpointed f table base is =
     let e = if b then as_reference (form_at f table base) else as_value (form_at f table base) in
     text (tree.base_pieces e (tree.expression_pieces e))) is)
 
--- nor does a constant
-module _ (m : Module) (t : TypeNames) where
-  constant_unsigned_by : (own : ℕ → tree.Expression) → ((x : ℕ) → is_signed (own x) ≡ false) →
-      (c : ℕ) → is_signed (constant_form_by m own c) ≡ false
-  constant_unsigned_by own each c = by (slice_get m.constants c)
-    where
-      named : (k : ir_constant.Constant) (b : Bool) →
-          is_signed (if b then tree.Name (constant_name (module_names m) c) else own k.init) ≡ false
-      named k true = refl
-      named k false = each k.init
-
-      by : (o : Option ir_constant.Constant) →
-          is_signed
-          (option_map_or
-          (λ k. if is_some k.name then tree.Name (constant_name (module_names m) c)
-          else own k.init) o no_constant_form) ≡
-          false
-      by None = refl
-      by (Some k) = named k (is_some k.name)
-
-  global_unsigned : (levels h : ℕ) → is_signed (global_form_within levels m t h) ≡ false
-  global_unsigned zero h = refl
-  global_unsigned (suc levels) h = by (slice_get m.global_expressions h) (global_unsigned levels)
-    where
-      own : ℕ → tree.Expression
-      own = global_form_within levels m t
-
-      a : ExpressionContext
-      a = expression_context m (λ x. None)
-
-      by : (o : Option ir.Expression) → ((x : ℕ) → is_signed (own x) ≡ false) →
-          is_signed
-          (option_map_or (constant_form_over a t (constant_form_by m own) own) o no_constant_form) ≡
-          false
-      by None each = refl
-      by (Some (expression.Constant c)) each = constant_unsigned_by own each c
-      by (Some (expression.ZeroValue ty)) each =
-          called_unsigned _ (constructor_called a (Handle ty) 0) (type_tree t ty) []
-      by (Some (expression.Compose ty components)) each =
-          called_unsigned _ (constructor_called a (Handle ty) (length components.items))
-          (type_tree t ty) (map own components.items)
-      by (Some (expression.Literal value)) each = refl
-      by (Some (expression.Splat size value)) each = refl
-      by (Some _) each = refl
-
-  constant_unsigned : (c : ℕ) → is_signed (written_constant_form m t c) ≡ false
-  constant_unsigned c = constant_unsigned_by (global_form m t) (λ x. global_unsigned (suc x) x) c
-
--- a value starts with one where its expression is one before its operand
-abbrev pub is_prefix : Option ir.Expression → Bool
-is_prefix (Some (expression.Unary op x)) = true
-is_prefix _ = false
+-- a value starts with one where its expression is one before its operand, or names a constant that
+-- is written so
+abbrev pub is_prefix : Module → Option ir.Expression → Bool
+is_prefix m (Some (expression.Unary op x)) = true
+is_prefix m (Some (expression.Constant c)) = is_signed (constant_at m c)
+is_prefix m _ = false
 
 -- by its cell
-abbrev pub signed_at : Option ir.Expression → (cell : Availability) → Bool
-signed_at e (cell.Bound name) = false
-signed_at e _ = is_prefix e
+abbrev pub signed_at : Module → Option ir.Expression → (cell : Availability) → Bool
+signed_at m e (cell.Bound name) = false
+signed_at m e _ = is_prefix m e
 
 pub signed_row : (f : FunctionText) (table : List Availability) (handle : ℕ) → CanWrite f →
     IsInText f handle →
     is_signed (as_value (form_at f table handle)) ≡
-    signed_at (slice_get (expressions f) handle) (get_or table handle cell.Absent)
+    signed_at f.shader.now (slice_get (expressions f) handle) (get_or table handle cell.Absent)
 signed_row f table handle can within =
     ap (λ form. is_signed (as_value form)) (cell_form f table handle can within.there)
     ∙ by (get_or table handle cell.Absent)
@@ -438,13 +389,14 @@ signed_row f table handle can within =
         (part_unsigned (is_pointer (context f) base) p.part (operand base) _ p.unsigned p.is).0
 
     own : (o : Option ir.Expression) → slice_get (expressions f) handle ≡ o →
-        is_signed (as_value (own_if (naming f) (source f) operand o)) ≡ is_prefix o
+        is_signed (as_value (own_if (naming f) (source f) operand o)) ≡ is_prefix f.shader.now o
     own None at = refl
     own (Some e) at = of_expression e at
       where
         of_expression : (e : ir.Expression) → slice_get (expressions f) handle ≡ Some e →
-            is_signed (as_value (own_plain (naming f) (source f) operand e)) ≡ is_prefix (Some e)
-        of_expression (expression.Constant c) at = constant_unsigned f.known.shader.now (type_names_of f) c
+            is_signed (as_value (own_plain (naming f) (source f) operand e)) ≡
+            is_prefix f.known.shader.now (Some e)
+        of_expression (expression.Constant c) at = refl
         of_expression (expression.ZeroValue ty) at =
             called_unsigned _ (constructor_called (context f) (Handle ty) 0)
             (type_tree (source f).type_names ty) []
@@ -474,7 +426,8 @@ signed_row f table handle can within =
             (value_forms operand (cooperative_operands place))
         of_expression _ at = refl
 
-    whole : is_signed (as_value (own_form f table handle)) ≡ is_prefix (slice_get (expressions f) handle)
+    whole : is_signed (as_value (own_form f table handle)) ≡
+        is_prefix f.shader.now (slice_get (expressions f) handle)
     whole = own (slice_get (expressions f) handle) refl
 
     by : (c : Availability) →
@@ -482,7 +435,7 @@ signed_row f table handle can within =
         (as_value
         (availability_plain (availability_of (named_in f) (numbered_name handle) c)
         (own_form f table handle))) ≡
-        signed_at (slice_get (expressions f) handle) c
+        signed_at f.shader.now (slice_get (expressions f) handle) c
     by (cell.Bound name) = refl
     by cell.Absent = whole
     by cell.Barred = whole
@@ -496,25 +449,28 @@ module _ (f : FunctionText) (table : List Availability) (handle : ℕ) (can : Ca
       false ≡ is_signed (as_value (form_at f table handle))
   signed_named name is =
       sym (signed_row f table handle can within
-      ∙ ap (signed_at (slice_get (expressions f) handle)) (sym at ∙ is))
+      ∙ ap (signed_at f.shader.now (slice_get (expressions f) handle)) (sym at ∙ is))
 
   pub signed_unnamed : ((name : BoundName) → c ≡ cell.Bound name → ⊥) → (e : ir.Expression) →
       slice_get (expressions f) handle ≡ Some e →
-      is_prefix (Some e) ≡ is_signed (as_value (form_at f table handle))
+      is_prefix f.shader.now (Some e) ≡ is_signed (as_value (form_at f table handle))
   signed_unnamed not_named e here =
       sym (signed_row f table handle can within
-      ∙ (ap (signed_at (slice_get (expressions f) handle)) (sym at)
-      ∙ (by c not_named ∙ ap is_prefix here)))
+      ∙ (ap (signed_at f.shader.now (slice_get (expressions f) handle)) (sym at)
+      ∙ (by c not_named ∙ ap (is_prefix f.shader.now) here)))
     where
       by : (c : Availability) → ((name : BoundName) → c ≡ cell.Bound name → ⊥) →
-          signed_at (slice_get (expressions f) handle) c ≡ is_prefix (slice_get (expressions f) handle)
+          signed_at f.shader.now (slice_get (expressions f) handle) c ≡
+          is_prefix f.shader.now (slice_get (expressions f) handle)
       by (cell.Bound name) not_named = absurd (not_named name refl)
       by cell.Absent not_named = refl
       by cell.Barred not_named = refl
       by cell.Everywhere not_named = refl
       by cell.Inline not_named = refl
 
-pub no_prefix : (e : ir.Expression) →
-    ((op : UnaryOperator) (x : ℕ) → e ≡ expression.Unary op x → ⊥) → false ≡ is_prefix (Some e)
-no_prefix (expression.Unary op x) none = absurd (none op x refl)
-no_prefix _ none = refl
+pub no_prefix : (m : Module) (e : ir.Expression) →
+    ((op : UnaryOperator) (x : ℕ) → e ≡ expression.Unary op x → ⊥) →
+    ((c : ℕ) → e ≡ expression.Constant c → ⊥) → false ≡ is_prefix m (Some e)
+no_prefix m (expression.Unary op x) none constant = absurd (none op x refl)
+no_prefix m (expression.Constant c) none constant = absurd (constant c refl)
+no_prefix m _ none constant = refl

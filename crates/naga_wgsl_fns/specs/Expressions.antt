@@ -8,7 +8,6 @@ use Rattle.module_semantics.specs.ExpressionOperators.{is_atomic_pointer, type_k
 use Rattle.module_semantics.specs.ExpressionOperators.{type_with}
 use Rattle.module_semantics.specs.OperatorTable.{AtomicLoad, run_word}
 use Rattle.module_semantics.specs.ExpressionShapes.{part_selector}
-use Rattle.naga_ir.specs.declared.operators.BinaryOperator.{BinaryOperator}
 use Rattle.naga_ir.specs.declared.types.Type_.{Type_}
 use Rattle.naga_ir.specs.declared.types.TypeInner.{TypeInner}
 use Rattle.naga_ir.specs.declared.types.TypeInner.TheVariants as inner
@@ -21,14 +20,14 @@ use Rattle.module_semantics.specs.Names.{global_name, module_names, name_in}
 use Rattle.module_semantics.specs.Undeclared.{whole_known}
 use Rattle.naga_ir.specs.Operands.{expression_operands}
 use Rattle.wgsl_text.specs.Expressions.{Expression, Name, AddressOf, Call, Dereference, Member}
-use Rattle.wgsl_text.specs.Expressions.{Unary, arguments_pieces, base_pieces, expression_pieces}
+use Rattle.wgsl_text.specs.Expressions.{arguments_pieces, base_pieces, expression_pieces}
 use Rattle.module_semantics.specs.ExpressionShapes.{letter}
 use Rattle.module_semantics.specs.TypeIdentity.{component_count}
 use Rattle.module_semantics.specs.TypeParts.{is_atomic}
 use Rattle.naga_ir.specs.declared.expression.SwizzleComponent.{SwizzleComponent}
 use Rattle.naga_ir.specs.declared.types.VectorSize.{VectorSize}
 use Rattle.wgsl_text.specs.Expressions.{more_arguments_pieces, operands as arguments_of}
-use Rattle.wgsl_words.specs.Words.{operator_text}
+pub use Rattle.naga_wgsl_shared.specs.Constants.{is_signed, spaced_text}
 use Rattle.wgsl_text.specs.Text.{text}
 use Rattle.wgsl_text.specs.Types.{Named, TypeSpecifier}
 use Rattle.wgsl_text.specs.Reading.{printed_type}
@@ -120,10 +119,6 @@ unfoldable pub applied_text : FunctionText → (table : List Availability) → N
 applied_text f table notation operands =
     printed_expression (applied_form notation (value_forms (form_at f table) operands))
 
--- an operator between its operands, with the blanks around it
-abbrev pub spaced_text : BinaryOperator → List ℕ
-spaced_text op = codes " " ++ operator_text op ++ codes " "
-
 -- a value of a type, made of the operands of an expression
 unfoldable pub made_text : FunctionText → (table : List Availability) → (type : TypeSpecifier) →
     (handle : ℕ) → List ℕ
@@ -176,11 +171,6 @@ called_text f table word handle =
     applied_text f table (Called (Named word)) (operands_at f handle)
 
 -- ---- parts
--- an operator before its operand
-abbrev pub is_signed : Expression → Bool
-is_signed (Unary op e) = true
-is_signed _ = false
-
 -- what a member or an index follows: in parentheses where it starts with an operator
 unfoldable pub base_text : FunctionText → (table : List Availability) → (handle : ℕ) → List ℕ
 base_text f table handle =

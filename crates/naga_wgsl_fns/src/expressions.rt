@@ -10,14 +10,14 @@ ghost use Rattle.naga_wgsl_fns.specs.Expressions.{address_text, applied_text, ca
 ghost use Rattle.naga_wgsl_fns.specs.Expressions.{made_text, made_type, next_operand_text};
 ghost use Rattle.naga_wgsl_fns.specs.Expressions.{operands_text};
 ghost use Rattle.naga_wgsl_fns.specs.Expressions.{own_text};
-ghost use Rattle.naga_wgsl_fns.specs.Expressions.{pointed_text, reference_text, spaced_text};
+ghost use Rattle.naga_wgsl_fns.specs.Expressions.{pointed_text, reference_text};
 ghost use Rattle.naga_wgsl_fns.specs.Expressions.{value_text};
-ghost use Rattle.wgsl_words.specs.Words.{unary_text};
 
 use crate::functions::FunctionText;
 use module_semantics::called_str;
 use naga_ir::{BinaryOperator, Expression, Handle, LocalVariable, Type_, UnaryOperator};
 use naga_scope::{Availability, Scope};
+use naga_wgsl_shared::signs::{spaced_operator_str, unary_operation_str};
 use naga_wgsl_shared::write_literal;
 use naga_words::{Output, TextSink};
 
@@ -300,43 +300,5 @@ impl FunctionText<'_> {
         out.put("(&");
         self.write_local_name(local, out);
         out.put(")");
-    }
-}
-
-/// The text of an operator between its operands, with the blanks around it: one piece, since operands
-/// in operands are written again and again.
-fn spaced_operator_str(op: BinaryOperator) -> &'static str
-    ensures { result.now ≡ spaced_text op }
-{
-    match op {
-        BinaryOperator::Add => " + ",
-        BinaryOperator::Subtract => " - ",
-        BinaryOperator::Multiply => " * ",
-        BinaryOperator::Divide => " / ",
-        BinaryOperator::Modulo => " % ",
-        BinaryOperator::Equal => " == ",
-        BinaryOperator::NotEqual => " != ",
-        BinaryOperator::Less => " < ",
-        BinaryOperator::LessEqual => " <= ",
-        BinaryOperator::Greater => " > ",
-        BinaryOperator::GreaterEqual => " >= ",
-        BinaryOperator::And => " & ",
-        BinaryOperator::ExclusiveOr => " ^ ",
-        BinaryOperator::InclusiveOr => " | ",
-        BinaryOperator::LogicalAnd => " && ",
-        BinaryOperator::LogicalOr => " || ",
-        BinaryOperator::ShiftLeft => " << ",
-        BinaryOperator::ShiftRight => " >> ",
-    }
-}
-
-/// The text of an operator before its operand.
-fn unary_operation_str(op: UnaryOperator) -> &'static str
-    ensures { result.now ≡ unary_text op }
-{
-    match op {
-        UnaryOperator::Negate => "-",
-        UnaryOperator::LogicalNot => "!",
-        UnaryOperator::BitwiseNot => "~",
     }
 }

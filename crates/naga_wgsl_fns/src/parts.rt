@@ -367,7 +367,11 @@ impl FunctionText<'_> {
     {
         match scope.availability(handle) {
             Availability::Bound(_) => false,
-            _ => matches!(&self.function.expressions[handle], Expression::Unary { .. }),
+            _ => match &self.function.expressions[handle] {
+                Expression::Unary { .. } => true,
+                Expression::Constant(constant) => self.of_module().is_signed_constant(*constant),
+                _ => false,
+            },
         }
     }
 }

@@ -4,7 +4,9 @@ use Rattle.std.proofs.Common.{◌≡◌, ℕ, zero, suc, Bool, true, false, List
 use Rattle.std.proofs.Common.{arith, refl, slice_get, subst, sym}
 use Rattle.std.specs.List.{IsAmong}
 use Rattle.std.specs.Option.{is_some, option_map_or, option_or}
-use Rattle.std.specs.Prelude.{if◌then◌else◌}
+use Rattle.std.specs.Prelude.{◌&&◌, if◌then◌else◌}
+use Rattle.module_semantics.specs.ExpressionForms.{operator_has_form}
+use Rattle.naga_ir.specs.Operands.{expression_operands}
 use Rattle.module_semantics.specs.ExpressionOperators.{own_operator}
 use Rattle.module_semantics.specs.LackingScalars.{lacking_scalar}
 use Rattle.module_semantics.specs.OperatorTable.{has_word}
@@ -184,7 +186,14 @@ module _ (m : Module) (own : ℕ → Option Construct) (each : (h : ℕ) → OfF
       either_of (first_refusal own components.items) (type_refusal m (Handle ty)) (first_of components.items)
       (type_of m (Handle ty))
   global_over (expression.Splat size value) = each value
-  global_over _ = refl
+  global_over e = operator (m.computes_constants && operator_has_form m e)
+    where
+      operator : (formed : Bool) →
+          OfForm
+          (if formed then first_refusal own (expression_operands e)
+          else Some construct.ConstantOperator)
+      operator true = first_of (expression_operands e)
+      operator false = refl
 
 within_of : (m : Module) (levels h : ℕ) → OfForm (global_refusal_within levels m h)
 within_of m zero h = refl

@@ -2,27 +2,28 @@
 -- Serves `global`, `write_called_global`, `write_made_global` and `write_next_part`.
 use Rattle.std.proofs.Common.{◌≡◌, ℕ, ◌<◌, Bool, true, false, List, [], ◌∷◌, length, Option, Some}
 use Rattle.std.proofs.Common.{None, codes, refl, sym, ap, ap₂, ◌∙◌, map, slice_get, subst, Global}
-use Rattle.std.proofs.Common.{Vec}
-use Rattle.std.specs.Prelude.{◌||◌, if◌then◌else◌, unwrap_or}
+use Rattle.std.proofs.Common.{Vec, true≢false}
+use Rattle.std.specs.Prelude.{◌&&◌, ◌||◌, if◌then◌else◌, unwrap_or}
 use Rattle.std.specs.List.{AllByRecursion, list_all}
 use Rattle.std.specs.Option.{is_some, option_map_or}
 use Rattle.std.proofs.lemmas.Bool.{and_parts, ltb-true}
 use Rattle.std.proofs.lemmas.Option.{same_Some, slice_get_within}
 use Rattle.module_semantics.proofs.Stepwise.{by_those_before}
 use Rattle.module_semantics.specs.AlikeTypes.{has_type_form}
-use Rattle.module_semantics.specs.OperatorTable.{Splat, run_word}
 use Rattle.module_semantics.specs.Names.{constant_name, module_names}
 use Rattle.module_semantics.specs.ExpressionForms.{constant_has_form, global_has_form}
 use Rattle.module_semantics.specs.ExpressionForms.{global_has_form_over, global_has_form_within}
-use Rattle.module_semantics.specs.ExpressionForms.{literal_has_form}
-use Rattle.module_semantics.specs.ExpressionContexts.{expression_context}
+use Rattle.module_semantics.specs.ExpressionForms.{literal_has_form, operator_has_form}
+use Rattle.module_semantics.specs.ExpressionOperators.{applied_operator, called_word}
 use Rattle.naga_form.proofs.operators.Operators.{constructor_called, typed_notation}
 use Rattle.naga_form.proofs.types.SameValues.{or_nothing}
 use Rattle.naga_form.proofs.declarations.OwnExpressions.{global_names_in_range}
 use Rattle.naga_form.proofs.types.WrittenTypes.{tree_there}
-use Rattle.naga_form.specs.ConstantForms.{built_form, constant_form_by, constant_form_over}
-use Rattle.naga_form.specs.ConstantForms.{global_form, global_form_within, no_constant_form}
+use Rattle.naga_form.specs.ConstantForms.{built_form, constant_form_by, global_form}
+use Rattle.naga_form.specs.ConstantForms.{global_form_over, global_form_within, no_constant_form}
+use Rattle.naga_form.specs.ConstantForms.{told_context}
 use Rattle.naga_form.specs.Operators.{applied_form, notation}
+use Rattle.naga_form.specs.OperatorTypes.{operator_type}
 use Rattle.naga_form.specs.TypeTrees.{type_tree}
 use Rattle.naga_info.specs.declared.info.TypeResolution.TheVariants.{Handle}
 use Rattle.naga_ir.specs.Operands.{expression_operands}
@@ -30,13 +31,16 @@ use Rattle.naga_ir.specs.declared.expression.Expression as ir
 use Rattle.naga_ir.specs.declared.expression.Expression.TheVariants as expression
 use Rattle.naga_ir.specs.declared.expression.Literal.{Literal}
 use Rattle.naga_ir.specs.declared.module.Constant as ir_constant
-use Rattle.naga_ir.specs.declared.types.VectorSize.{VectorSize}
+use Rattle.naga_ir.specs.declared.operators.BinaryOperator.{BinaryOperator}
+use Rattle.naga_ir.specs.declared.operators.UnaryOperator.{UnaryOperator}
+use Rattle.naga_ir.specs.declared.types.ScalarKind.{ScalarKind}
 use Rattle.naga_ir.specs.declared.module.Module.{Module}
 use Rattle.naga_tables.proofs.WrittenConstants.{global_same, globals_in_order}
 use Rattle.naga_tables.specs.Marks.{GlobalsStandInOrder}
 use Rattle.naga_spelling.specs.Contexts.{Names as TypeNames}
 use Rattle.naga_words.specs.Output.{joined_texts}
-use Rattle.naga_wgsl_shared.specs.Constants.{called_global_text, constant_text, global_at}
+use Rattle.naga_wgsl_shared.specs.Constants.{called_global_text, constant_at, constant_text}
+use Rattle.naga_wgsl_shared.specs.Constants.{global_at}
 use Rattle.naga_wgsl_shared.specs.Constants.{global_text}
 use Rattle.naga_wgsl_shared.specs.Constants.{made_global_text, next_part_text, parts_at, parts_left}
 use Rattle.naga_wgsl_shared.specs.Constants.{parts_text}
@@ -58,14 +62,19 @@ use Rattle.wgsl_text.specs.Expressions.{Call, Expression, Name, operands as argu
 use Rattle.wgsl_text.specs.Reading.{printed_expression}
 use Rattle.wgsl_text.specs.Types.{Named}
 
--- an expression is of none of the kinds that are written among a module's own
+-- an expression is of none of the kinds that are written among a module's own, and no operator that
+-- is called by its word
 pub record IsNoOtherGlobal (e : ir.Expression) : Type 0 where
   pub literal : (value : Literal) → e ≡ expression.Literal value → ⊥
   pub constant : (c : ℕ) → e ≡ expression.Constant c → ⊥
   pub overridden : (o : ℕ) → e ≡ expression.Override o → ⊥
   pub zero_value : (ty : ℕ) → e ≡ expression.ZeroValue ty → ⊥
   pub composed : (ty : ℕ) (parts : Vec ℕ Global) → e ≡ expression.Compose ty parts → ⊥
-  pub splat : (size : VectorSize) (x : ℕ) → e ≡ expression.Splat size x → ⊥
+  pub sign : (op : UnaryOperator) (x : ℕ) → e ≡ expression.Unary op x → ⊥
+  pub between : (op : BinaryOperator) (x y : ℕ) → e ≡ expression.Binary op x y → ⊥
+  pub converted : (x : ℕ) (kind : ScalarKind) (convert : Option ℕ) →
+      e ≡ expression.As x kind convert → ⊥
+  pub called : called_word e ≡ None
 
 -- the initialiser of a constant
 abbrev pub initialiser_at : Module → (constant : ℕ) → ℕ
@@ -76,9 +85,16 @@ abbrev pub ArePartsBelow : Module → (h : ℕ) → List ℕ → Type 0
 ArePartsBelow m h xs = AllByRecursion (λ x. (x < h) × (global_has_form m x ≡ true)) xs
 
 -- the form of one of the module's own expressions, over those of others
-abbrev over : Module → TypeNames → (ℕ → Expression) → ir.Expression → Expression
-over m t own e = constant_form_over (expression_context m (λ x. None)) t (constant_form_by m own)
-    own e
+abbrev pub over : Module → TypeNames → (ℕ → Expression) → ir.Expression → Expression
+over m t own e = global_form_over m t (constant_form_by m own) own e
+
+-- an operator among those that have a form has one by itself
+pub operator_formed : (m : Module) (e : ir.Expression) (own : ℕ → Bool) →
+    (m.computes_constants && (operator_has_form m e && list_all own (expression_operands e))) ≡ true →
+    (operator_has_form m e ≡ true) × (list_all own (expression_operands e) ≡ true)
+operator_formed m e own is =
+    and_parts (operator_has_form m e) (list_all own (expression_operands e))
+    (and_parts m.computes_constants _ is).1
 
 -- ---- what is written among the module's own expressions
 module _ (m : Module) (ordered : GlobalsStandInOrder m) where
@@ -93,7 +109,7 @@ module _ (m : Module) (ordered : GlobalsStandInOrder m) where
       by None at is = absurd cc
 
   -- it is so by what stands before it
-  passes_over : (h : ℕ) (e : ir.Expression) → slice_get m.global_expressions h ≡ Some e →
+  pub passes_over : (h : ℕ) (e : ir.Expression) → slice_get m.global_expressions h ≡ Some e →
       global_has_form m h ≡ true → global_has_form_over m (global_has_form m) e ≡ true
   passes_over h e at is =
       by_those_before false m.global_expressions (global_has_form_over m)
@@ -125,7 +141,8 @@ module _ (m : Module) (ordered : GlobalsStandInOrder m) where
           (and_parts (is_spellable m (Handle ty)) (list_all (global_has_form m) components.items)
           is).1
       by (expression.Splat size value) at below is = ((below.0, is), tt)
-      by _ at below is = absurd cc
+      by e at below is =
+          parts_of h (expression_operands e) below (operator_formed m e (global_has_form m) is).1
 
   -- a constant that is written is there, and its initialiser is written where it has no name
   constant_over : (c : ℕ) → constant_has_form m c ≡ true →
@@ -166,6 +183,16 @@ module _ (m : Module) (ordered : GlobalsStandInOrder m) where
       (ordered.initialisers h c k.0 (at ∙ ap Some same) k.1)
 
   -- no other expression is written
+  no_operator : (e : ir.Expression) → operator_has_form m e ≡ true → IsNoOtherGlobal e → ⊥
+  no_operator (expression.Unary op x) has none = none.sign op x refl
+  no_operator (expression.Binary op x y) has none = none.between op x y refl
+  no_operator (expression.As x kind convert) has none = none.converted x kind convert refl
+  no_operator (expression.Select condition accept reject) has none =
+      true≢false (ap is_some none.called)
+  no_operator (expression.Relational fun x) has none = true≢false (sym has ∙ ap is_some none.called)
+  no_operator (expression.Math fun x y z w) has none = true≢false (sym has ∙ ap is_some none.called)
+  no_operator _ has none = absurd cc
+
   pub no_other_global : (h : ℕ) (e : ir.Expression) → slice_get m.global_expressions h ≡ Some e →
       global_has_form m h ≡ true → IsNoOtherGlobal e → ⊥
   no_other_global h e at is none = by e (passes_over h e at is) none
@@ -177,8 +204,8 @@ module _ (m : Module) (ordered : GlobalsStandInOrder m) where
       by (expression.Override o) is none = none.overridden o refl
       by (expression.ZeroValue ty) is none = none.zero_value ty refl
       by (expression.Compose ty parts) is none = none.composed ty parts refl
-      by (expression.Splat size value) is none = none.splat size value refl
-      by _ is none = absurd cc
+      by (expression.Splat size value) is none = true≢false (ap is_some none.called)
+      by e is none = no_operator e (operator_formed m e (global_has_form m) is).0 none
 
   pub literal_passes : (h : ℕ) (e : ir.Expression) (value : _) →
       slice_get m.global_expressions h ≡ Some e → e ≡ expression.Literal value →
@@ -225,16 +252,16 @@ module _ (m : Module) (ordered : GlobalsStandInOrder m) where
         (a b : ℕ → Expression) → ((x : ℕ) → x < h → a x ≡ b x) → over m t a e ≡ over m t b e
     over_alike h (expression.Constant c) at a b same =
         constant_alike a b h c (λ k there. ordered.initialisers h c k at there) same
-    over_alike h (expression.Compose ty components) at a b same =
-        ap (built_form (expression_context m (λ x. None)) t ty (length components.items))
-        (map_same a b h components.items
-        (ordered.operands h (expression.Compose ty components) at) same)
-    over_alike h (expression.Splat size value) at a b same =
-        ap (λ e. applied_form (notation None (Splat size)) (e ∷ []))
-        (same value (ordered.operands h (expression.Splat size value) at).0)
     over_alike h (expression.Literal value) at a b same = refl
+    over_alike h (expression.Override o) at a b same = refl
     over_alike h (expression.ZeroValue ty) at a b same = refl
-    over_alike h _ at a b same = refl
+    over_alike h e at a b same =
+        ap
+        (λ parts.
+        option_map_or
+        (λ op. applied_form (notation (operator_type (told_context m) t e) op) parts)
+        (applied_operator (told_context m) e) no_constant_form)
+        (map_same a b h (expression_operands e) (ordered.operands h e at) same)
 
     -- its form, over the forms of those before it
     pub form_over : (h : ℕ) (e : ir.Expression) → slice_get m.global_expressions h ≡ Some e →
@@ -248,7 +275,7 @@ module _ (m : Module) (ordered : GlobalsStandInOrder m) where
 pub in_order : (m : Module) → CanWriteOf m → GlobalsStandInOrder m
 in_order m can = globals_in_order m can.info can.accepted
 
-own_form_is : (m : Module) → CanWriteOf m → (h : ℕ) (e own : ir.Expression) →
+pub own_form_is : (m : Module) → CanWriteOf m → (h : ℕ) (e own : ir.Expression) →
     slice_get m.global_expressions h ≡ Some e → e ≡ own →
     over m (type_names m) (global_at m) own ≡ global_at m h
 own_form_is m can h e own at same =
@@ -275,6 +302,18 @@ module _ (m : Module) (c : ℕ) (k : ir_constant.Constant) (there : slice_get m.
     unfolding name_of_constant
     named_constant is =
         sym (of_constant true is ∙ name_text (constant_name (module_names m) c))
+
+    pub unnamed_form : is_some k.name ≡ false → global_at m k.init ≡ constant_at m c
+    unnamed_form is =
+        sym
+        (ap (λ o. option_map_or (λ item. by_name item (is_some item.name)) o no_constant_form) there
+        ∙ ap (by_name k) is)
+
+    pub named_form : is_some k.name ≡ true → Name (constant_name (module_names m) c) ≡ constant_at m c
+    named_form is =
+        sym
+        (ap (λ o. option_map_or (λ item. by_name item (is_some item.name)) o no_constant_form) there
+        ∙ ap (by_name k) is)
 
     pub unnamed_constant : is_some k.name ≡ false → global_text m k.init ≡ constant_text m c
     unfolding global_text
@@ -314,7 +353,7 @@ literal_row m can h e value at same =
 made_of : (m : Module) → CanWriteOf m → (h ty components : ℕ) (e own : ir.Expression) →
     slice_get m.global_expressions h ≡ Some e → e ≡ own →
     has_type_form m.types (Handle ty) ≡ true →
-    built_form (expression_context m (λ x. None)) (type_names m) ty components
+    built_form (told_context m) (type_names m) ty components
     (map (global_at m) (expression_operands own)) ≡
     over m (type_names m) (global_at m) own →
     made_global_text m ty h ≡ global_text m h
@@ -322,7 +361,7 @@ unfolding made_global_text global_text
 made_of m can h ty components e own at same formed is =
     let tree = tree_there (type_names m) (Handle ty) formed in
     let parts = map (global_at m) (expression_operands own) in
-    let a = expression_context m (λ x. None) in
+    let a = told_context m in
     ap₂
     (λ o x. printed_expression
     (Call (unwrap_or o (Named []))
@@ -345,19 +384,6 @@ pub composed_row : (m : Module) → CanWriteOf m → (h ty : ℕ) (parts : _) (e
     has_type_form m.types (Handle ty) ≡ true → made_global_text m ty h ≡ global_text m h
 composed_row m can h ty parts e at same formed =
     made_of m can h ty (length parts.items) e (expression.Compose ty parts) at same formed refl
-
--- a vector of one value
-pub splat_row : (m : Module) → CanWriteOf m → (h : ℕ) (size : _) (value : ℕ) (e : ir.Expression)
-    (word : List ℕ) → slice_get m.global_expressions h ≡ Some e →
-    e ≡ expression.Splat size value → word ≡ run_word (Splat size) →
-    called_global_text m word h ≡ global_text m h
-unfolding called_global_text global_text
-splat_row m can h size value e word at same named =
-    ap₂
-    (λ w o. printed_expression
-    (Call (Named w) (arguments_of (map (global_at m) (option_map_or expression_operands o [])))))
-    named (at ∙ ap Some same)
-    ∙ ap printed_expression (own_form_is m can h e (expression.Splat size value) at same)
 
 -- ---- rows
 pub made_global_row : (m : Module) (ty handle : ℕ) →

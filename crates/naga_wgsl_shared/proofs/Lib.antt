@@ -2,6 +2,7 @@ pub mod Appending
 pub mod AttributeRows
 pub mod ConstantRows
 pub mod Literals
+pub mod OperatorRows
 pub mod RepresentativeRows
 pub mod SingleBindings
 pub mod SingleExpressions

@@ -33,7 +33,7 @@ use std::collections::HashMap;
 /// type that names a struct which no text declares as `Custom`, `predeclared struct`, one of a type
 /// with a scalar without a word as `Unsupported`, of the kind `scalar type`, and one of any other
 /// type without a form as `Custom`, `type without a WGSL form`; an operator as `Custom`, `operator
-/// in a constant`. Such a refusal leaves the sink as it was. After want of memory or a failure of
+/// in a constant`, unless the module asks for such and it has a form. Such a refusal leaves the sink as it was. After want of memory or a failure of
 /// the sink a beginning of the text may stand after what the sink held.
 ///
 /// As an initialiser in what is written for the module the text has the value of the module's own

@@ -12,6 +12,7 @@ pub mod implemented;
 pub mod literal;
 pub mod module_text;
 mod names;
+pub mod signs;
 pub mod sinks;
 mod stages;
 pub mod undeclared;

@@ -19,16 +19,17 @@ HERE = Path(__file__).resolve().parent
 CRATE = HERE.parent
 
 EXPECTATION = re.compile(
-    r"(gives nothing|gives with types|gives portable|gives with digits|gives)"
-    r"|(refused with types|refused|at with types|at|not accepted): (.+)"
+    r"(gives nothing|gives with types|gives portable|gives with digits|gives computed|gives)"
+    r"|(refused with types|refused computed|refused|at with types|at|not accepted): (.+)"
 )
 # The lines with a text below them.
-TEXTS = ("gives", "gives with types", "gives portable", "gives with digits")
+TEXTS = ("gives", "gives with types", "gives portable", "gives with digits", "gives computed")
 # Other texts of the same module, by the lines that tell them: the member by which the program is asked for one,
 # and what stands after the case's name, without types and with them.
 OTHERS = {
     "gives portable": ("portable", "portable", "portable with types"),
     "gives with digits": ("digits", "with digits", "with digits and types"),
+    "gives computed": ("computed", "computed", "computed with types"),
 }
 ONLY_WITH_TYPES = re.compile(r"\[(: [^\[\]]+)\]")
 # A line of attributes alone, in front of an entry point or a variable that is bound.
@@ -143,6 +144,7 @@ class Expected:
         self.refusals = [None, None]
         self.positions = [None, None]
         self.others = dict.fromkeys(OTHERS)
+        self.refused_computed = False
         self.only = None
 
     def add(self, case, head, match, lines):
@@ -156,6 +158,9 @@ class Expected:
         else:
             has_nothing_below(case, lines)
             told = rest or ""
+        if word == "refused computed":
+            self.refused_computed = True
+            gives = "gives computed"
         if gives in OTHERS:
             self.others[gives] = self.first_time(case, head, self.others[gives], told)
         elif word == "not accepted":
@@ -191,10 +196,13 @@ class Expected:
             raise case.error("a position of what is not refused with types")
         if "" in self.positions and self.refusals != [None, None]:
             raise case.error("what is refused stands somewhere")
-        if others and self.refusals != [None, None]:
-            raise case.error(f"a module that is not written has no text {others[0]}")
-        if others and self.texts[0] is None:
+        of_written = [other for other in others if other != "computed"]
+        if of_written and self.refusals != [None, None]:
+            raise case.error(f"a module that is not written has no text {of_written[0]}")
+        if others and plain == (None, None):
             raise case.error(f"{others[0]} alone: what is written otherwise is not told")
+        if "computed" in others and self.refusals[0] is None:
+            raise case.error("a module that is written has no other text computed")
 
     def answers(self, module):
         """What the program prints without the types of `let`s and with them."""
@@ -220,6 +228,9 @@ class Expected:
         has_entry_points = bool(module.get("entry_points"))
         for gives, (_, plain_head, typed_head) in OTHERS.items():
             if self.others[gives] is None:
+                continue
+            if gives == "gives computed" and self.refused_computed:
+                yield plain_head, f"refused: {self.others[gives]}\n{self.positions[False] or ''}"
                 continue
             plain, typed = (ONLY_WITH_TYPES.sub(types, self.others[gives]) for types in ("", r"\1"))
             yield plain_head, ended(plain, has_entry_points)

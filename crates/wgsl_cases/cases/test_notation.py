@@ -83,6 +83,12 @@ REFUSED = [
      "2: with digits alone: what is written otherwise is not told"),
     (FUNCTION + "  refused: why\n  gives with digits\n    a\n",
      "2: a module that is not written has no text with digits"),
+    (FUNCTION + "  gives computed\n    a\n",
+     "2: computed alone: what is written otherwise is not told"),
+    (FUNCTION + "  gives\n    a\n  gives computed\n    b\n",
+     "2: a module that is written has no other text computed"),
+    (FUNCTION + "  refused: why\n  refused computed: why\n  gives computed\n    b\n",
+     "7: this is told before"),
     (FUNCTION + "  gives with type\n    a\n", "5: `gives` begins no line of a module"),
     (FUNCTION + "  not accepted\n", "5: `not` begins no line of a module"),
     # edits

@@ -17,7 +17,9 @@ from test_runs import faults  # noqa: E402
 
 CRATE = Path(__file__).resolve().parent.parent
 # How else than plainly a case is written.
-STYLES = ("with types", "portable", "portable with types", "with digits", "with digits and types")
+STYLES = (
+    "with types", "portable", "portable with types", "with digits", "with digits and types", "computed",
+    "computed with types")
 
 LATE, SIBLING, SWITCH = "sum of earlier read", "sum in both branches", "joined cases"
 TAIL, FOLDED, CALL = "sum in continuing", "constant sum after continue", "call with pointer"

@@ -187,6 +187,7 @@ module_of r types f =
       diagnostic_filters = [];
       diagnostic_filter_leaf = None;
       keeps_digits = false;
+      computes_constants = false;
     }
 
 -- an expression is used so often, and has the type with this handle

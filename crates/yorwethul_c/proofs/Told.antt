@@ -3,7 +3,7 @@ use Rattle.std.proofs.Common.{◌≡◌, ◌≤◌, ◌∙◌, ℕ, List, [], Er
 use Rattle.std.proofs.Common.{Result, Some, ap, inl, inr, is_none, length, refl, subst, sym, arith}
 use Rattle.std.specs.Prelude.{Bool, true, false}
 use Rattle.std.proofs.lemmas.Bool.{le-leb, lt-leb}
-use Rattle.decimal_floats.specs.Decimals.{IsDecimalModule, IsDecimalThroughout, keeping_digits}
+use Rattle.decimal_floats.specs.Decimals.{IsDecimalModule, IsDecimalThroughout, asking_standard}
 use Rattle.std.specs.Prelude.{◌<◌, ◌%◌, IfSome, IsTrue, IsUtf8}
 use Rattle.naga_ir.specs.declared.module.Module.{Module}
 use Rattle.naga_info.specs.declared.info.ModuleInfo.{ModuleInfo}
@@ -286,7 +286,7 @@ as_given flags m less = subst (λ asked. IsAsAsked asked m m) (sym (lt-leb 4 fla
 pub not_decimal : (flags : ℕ) {X : Type 0} → flags < 4 → IsTrue (asks_decimal_floats flags) → X
 not_decimal flags less asked = (let false_is : false ≡ true = sym (lt-leb 4 flags less) ∙ asked in absurd cc)
 
-pub with_decimal_floats : (flags : ℕ) (given m : Module) → 4 ≤ flags → IsDecimalModule (keeping_digits given) m →
+pub with_decimal_floats : (flags : ℕ) (given m : Module) → 4 ≤ flags → IsDecimalModule (asking_standard given) m →
     IsAsAsked (asks_decimal_floats flags) given m
 with_decimal_floats flags given m more decimal =
     subst (λ asked. IsAsAsked asked given m) (sym (le-leb 4 flags more)) decimal

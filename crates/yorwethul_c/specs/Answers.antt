@@ -39,7 +39,7 @@ use Rattle.naga_json.specs.Modules.{seen_given, text_given_said}
 use Rattle.naga_json.specs.declared.modules.Given.{Given}
 use Rattle.naga_wgsl_out.specs.Headline.{FaithfulWriting}
 use Rattle.naga_wgsl_out.specs.declared.unwritable.Refusal.{Refusal}
-use Rattle.decimal_floats.specs.Decimals.{IsDecimalModule, IsDecimalThroughout, keeping_digits}
+use Rattle.decimal_floats.specs.Decimals.{IsDecimalModule, IsDecimalThroughout, asking_standard}
 use Rattle.module_positions.specs.JsonNesting.{nest_too_deep}
 use Rattle.yorwethul_c.specs.declared.status.Status.{Status}
 use Rattle.yorwethul_c.specs.declared.status.Status.TheVariants as status
@@ -92,10 +92,10 @@ abbrev pub deepest_nesting : ℕ
 deepest_nesting = 4000
 
 -- Of the flags in yorwethul.h the two lowest bits are the writer's own. The next one asks that names
--- keep their digits and the floats of a module are made decimal before it is written; else it is
--- written as it is given.
+-- keep their digits, operators in constants are written and the floats of a module are made decimal
+-- before it is written; else it is written as it is given.
 abbrev pub IsAsAsked : (are_decimal : Bool) → (given m : Module) → Type 0
-IsAsAsked true given m = IsDecimalModule (keeping_digits given) m
+IsAsAsked true given m = IsDecimalModule (asking_standard given) m
 IsAsAsked false given m = m ≡ given
 
 abbrev pub asks_decimal_floats : (flags : ℕ) → Bool

@@ -182,11 +182,11 @@ blur.wgsl there, and with --names it is blur.names.json, with --json blur.answer
 blur.layout.txt, with --explain blur.explain.txt and with --lines blur.answers.jsonl; that of the
 standard input is stdin.wgsl. Where nothing would be printed, no file is made or changed.
 
-Literals of floats are written by the digits that Rust's formatting gives, names may end in digits,
-as pass2, and the text has what standard compilers ask for, as enable subgroups, and begins with
-directives for the module's filters of diagnostics. With --plain none of this is so, as by the
-library without flags: a literal of a float that the module holds as its bits is then refused, and
-pass2 is written pass2_.
+Literals of floats are written by the digits that Rust's formatting gives, operators in constants
+are written too, names may end in digits, as pass2, and the text has what standard compilers ask
+for, as enable subgroups, and begins with directives for the module's filters of diagnostics. With
+--plain none of this is so, as by the library without flags: a literal of a float that the module
+holds as its bits and an operator in a constant are then refused, and pass2 is written pass2_.
 
 With --layout each struct that the text declares has a line, and so has each of its members, with
 its offset and what WGSL gives to its type, in bytes, or why the member can't stay where it is.

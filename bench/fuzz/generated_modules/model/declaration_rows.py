@@ -141,6 +141,22 @@ def chained():
     return whole([INT, pair], own, constants, [Override("N", INT)], functions=[f])
 
 
+def computed(asks):
+    """Overrides and a constant that apply operators, and a part of a constant that is a sign, where such are written."""
+    pair = ("vector", 2, I32)
+    own = [
+        named("override", INT, 0), literal(2), Expression("binary", INT, [2], [0, 1]),
+        Expression("conversion", ("scalar", F32), [2, 4], [0]), Expression("splat", pair, [2], [1]),
+        Expression("unary", pair, [0], [4])]
+    f = function("f", INT)
+    part = f.add(Expression("access index", INT, [1], [f.add(named("constant", pair, 0))]))
+    f.body = [emit(part, part), returns(part)]
+    overrides = [Override("N", INT), Override(None, INT, 2), Override("x", ("scalar", F32), 3)]
+    module = whole([INT, pair, ("scalar", F32)], own, [Constant(None, pair, 5)], overrides, functions=[f])
+    module.computes_constants = asks
+    return module
+
+
 def held():
     """A sampled image that is held, and a variable that holds a pointer into another space."""
     image, sampler = ("image", 1, False, ("sampled", "float", False)), ("sampler", False)
@@ -360,6 +376,8 @@ TEXTS = [
     (short(), "enable wgpu_int16;\n\nfn f() -> u16 {\n    return u16(5);\n}\n\n"),
     (chained(), "const A: i32 = B;\nconst B: i32 = 5i;\nconst C: vec2<i32> = vec2<i32>(N, B);\n\noverride N: i32;\n\n"
      "fn f() -> i32 {\n    return ((A + 7i) + C.y);\n}\n\n"),
+    (computed(True), "override N: i32;\noverride override_type: i32 = (N * 2i);\noverride x: f32 = f32(N);\n\n"
+     "fn f() -> i32 {\n    return (-(vec2(2i))).y;\n}\n\n"),
     (held(), "@group(0) @binding(0) \nvar t: texture_2d<f32>;\n@group(0) @binding(1) \nvar s: sampler;\n"
      "var q: ptr<private, array<i32, 4>>;\n\nfn f(p: vec2<f32>) -> i32 {\n    let _e4[: u32] = textureDimensions(t);\n"
      "    let _e6[: i32] = (*q)[2];\n    (*q)[2] = _e6;\n    return _e6;\n}\n\n"),
@@ -546,6 +564,7 @@ def check_refused():
         own=[named("override", INT, 0), literal(1), Expression("binary", INT, [0], [0, 1])],
         overrides=[Override("m", INT), Override("n", INT, 2)])
     assert is_accepted(module) and answers_of(module, False) == (False, {refusal(OPERATOR)})
+    assert answers_of(computed(False), False) == (False, {refusal(OPERATOR)})
     told = {"enable wgpu_cooperative_matrix;\n\n" + refusal(NO_SCALAR)}
     assert answers_of(whole(functions=[loaded(("sint", 3))]), False) == (False, told)
     f = function("f", None)

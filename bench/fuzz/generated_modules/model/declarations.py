@@ -5,15 +5,20 @@ Most declarations have a form and are accepted; of others, a module has one faul
 
 from bindings import some_binding
 from chance import some_bits, some_label, some_number, some_numeral
-from functions import RANGES, FunctionMaker
+from functions import COMPARISONS, LOGICAL, RANGES, FunctionMaker
 from modules import Constant, EntryPoint, Expression, Override, Variable, statements_in
 from operators import LITERALS, NUMERALS
 from refusals import unsupported_own
-from spelling import ATOMIC, BOOL, F32, FUNCTION, HANDLE, I32, LOAD, SPACES, STORE, U32, is_override
+from spelling import (
+    ATOMIC, BOOL, F32, FUNCTION, HANDLE, I32, LOAD, SCALAR_KINDS, SPACES, STORE, U32, is_override)
 from structs import StructMaker
+from words import MATH
 
 STAGES = ["Vertex", "Fragment", "Compute", "Task", "Mesh", "RayGeneration", "AnyHit", "ClosestHit", "Miss"]
 NUMBERS = ("scalar", "vector", "matrix")
+# of which operators in constants are made, and the function of mathematics among them
+COMPUTED_SCALARS = (BOOL, I32, U32, F32)
+MINIMUM = MATH.index(("min", 2))
 # what has no zero value in WGSL
 OPAQUE = ("image", "sampler", "ray query", "acceleration", "pointer", "value pointer", "binding array")
 
@@ -23,6 +28,8 @@ class OwnMaker(FunctionMaker):
 
     def __init__(self, r, module, types):
         super().__init__(r, module, types, module.own)
+        # a module with operators in its constants is refused in the style without decimals
+        self.computes = self.chance(0.12)
 
     # ---- initialisers
     def clean(self, test):
@@ -42,6 +49,8 @@ class OwnMaker(FunctionMaker):
             return self.r.choice(known)
         if depth > 3 or self.chance(0.2):
             return self.zero(ty)
+        if self.computes and ty[0] == "scalar" and ty[1] in COMPUTED_SCALARS and self.chance(0.4):
+            return self.computed(ty[1], depth + 1)
         if ty[0] == "scalar" and (ty[1] in RANGES or ty[1] in NUMERALS or ty[1] == BOOL):
             return self.number(ty[1])
         parts = self.parts_of(ty)
@@ -50,6 +59,33 @@ class OwnMaker(FunctionMaker):
         if ty[0] == "vector" and self.chance(0.3):
             return self.put("splat", ty, [ty[1]], [self.tree(("scalar", ty[2]), depth + 1)])
         return self.put_typed("compose", ty, [self.tree(part, depth + 1) for part in parts])
+
+    def computed(self, scalar, depth):
+        """An operator of this scalar over what can be written."""
+        r, ty, what = self.r, ("scalar", scalar), self.r.random()
+        if what < 0.15:
+            return self.put("select", ty, [], [*(self.tree(ty, depth) for _ in range(2)), self.tree(("scalar", BOOL), depth)])
+        if what < 0.3:
+            told = self.number(r.choice([I32, U32, F32])) if self.chance(0.4) else None
+            named = self.handles_of(lambda h, e: e.kind in ("constant", "override") and e.type[0] == "scalar")
+            if told is None:
+                told = r.choice(named) if named else self.zero(("scalar", U32))
+            kind, width = scalar
+            keeps_bits = scalar != BOOL and self.f.type_of(told)[1][1] == width and self.chance(0.3)
+            return self.put("conversion", ty, (SCALAR_KINDS.index(kind), 0 if keeps_bits else width), [told])
+        if scalar != BOOL:
+            if what < 0.45:
+                return self.put("unary", ty, [0 if scalar != U32 or self.chance(0.1) else 2], [self.tree(ty, depth)])
+            if what < 0.55:
+                return self.put("math", ty, [MINIMUM], [self.tree(ty, depth), self.tree(ty, depth)])
+            return self.put("binary", ty, [r.randrange(5)], [self.tree(ty, depth), self.tree(ty, depth)])
+        if what < 0.45:
+            return self.put("unary", ty, [1], [self.tree(ty, depth)])
+        if what < 0.55:
+            return self.put("relational", ty, [r.randrange(2)], [self.tree(ty, depth)])
+        other = ("scalar", r.choice([I32, U32, F32])) if self.chance(0.5) else ty
+        op = r.choice(LOGICAL) if other == ty else r.choice(COMPARISONS)
+        return self.put("binary", ty, [op], [self.tree(other, depth), self.tree(other, depth)])
 
     def parts_of(self, ty):
         """The types of the parts of a value, where there are few."""
@@ -300,12 +336,12 @@ class FaultMaker:
         self.module.handle_of(whole)
         return whole, self.own.put_typed("compose", whole, [h, h])
 
-    def operator(self):
+    def operator(self, words=("unary", "binary", "select", "global", "load", "conversion", "access index")):
         """An initialiser that applies an operator, or is a variable or what has no such value."""
         r, own = self.r, self.own
         ty = ("scalar", r.choice([I32, U32]))
         x = own.tree(ty)
-        what = r.choice(["unary", "binary", "select", "global", "load", "conversion", "access index"])
+        what = r.choice(words)
         if what == "global" or what == "load":
             number = len(self.module.variables)
             self.module.variables.append(Variable(None, self.module.handle_of(ty), ("private", 0)))

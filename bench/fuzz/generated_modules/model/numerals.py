@@ -74,10 +74,10 @@ def digits_of(text):
 
 
 def with_decimals(module):
-    """The module, each of whose floats that are held as bits and have a numeral is held as that, and whose names keep
-    their digits."""
+    """The module, each of whose floats that are held as bits and have a numeral is held as that, whose names keep their
+    digits, and whose constants may apply operators."""
     module = copy.deepcopy(module)
-    module.keeps_digits = True
+    module.keeps_digits = module.computes_constants = True
     for f in module.groups():
         for e in f.expressions:
             if e.kind == "literal" and LITERALS[e.what[0]] in FORMS and e.what[0] not in NUMERALS.values():

@@ -190,3 +190,18 @@ def numbers_around(f, e, is_portable=False):
 def offset_of(e):
     """The offset of a sampling, if it has one."""
     return e.operands[-1] if e.kind == "sample" and e.what[0].offset else None
+
+
+# what one of a module's own expressions may apply, where the module asks that such are written
+COMPUTED = ("unary", "binary", "select", "math", "relational", "conversion")
+
+
+def is_computed(module, e):
+    """Whether an operator among the module's own expressions is written: it has a word, and a conversion is of a scalar
+    that the module itself tells, for which WGSL has a word too."""
+    if not module.computes_constants or e.kind not in COMPUTED or word_of(module.own, e) is None:
+        return False
+    if e.kind != "conversion":
+        return True
+    kind, ty = module.own.expressions[e.operands[0]].kind, module.own.type_of(e.operands[0])
+    return kind in ("literal", "constant", "override", "zero") and ty[0] == "scalar" and ty[1] in SCALARS

@@ -4,7 +4,7 @@ from bindings import unsupported_binding
 from layouts import standing_in_structs
 from modules import QUERIES, statements_in
 from operators import (
-    LITERALS, act_word, conversion_word, is_numeral, loaded_matrix, offset_of, wanted_scalar, word_of)
+    LITERALS, act_word, conversion_word, is_computed, is_numeral, loaded_matrix, offset_of, wanted_scalar, word_of)
 from spelling import F16, F32, F64, lacking_scalar, scalar_of, spelled, whole_of
 from words import MATH, MEMBERS, RELATIONAL
 from writer import WRITTEN_OUT, Refused, Writer, binds, emitted_by, is_constant_text, is_partless, uses_of, written_of
@@ -162,7 +162,7 @@ def unsupported_constant(module, number):
 def unsupported_own(module, h):
     """What stands in one of the module's own expressions, which is written out."""
     e = module.own.expressions[h]
-    if e.kind not in WRITTEN_OUT:
+    if e.kind not in WRITTEN_OUT and not is_computed(module, e):
         return {OPERATOR}
     standing = unsupported(module.own, h)
     for k in e.operands:

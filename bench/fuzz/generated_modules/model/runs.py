@@ -7,7 +7,7 @@ computed.
 
 from modules import EVENTS, READS
 from naming import Names
-from operators import act_word, barrier_words, literal_text, numbers_around, offset_of, word_of
+from operators import act_word, barrier_words, is_computed, literal_text, numbers_around, offset_of, word_of
 from reading import asks
 from spelling import HANDLE, pointer_to, points_to_atomic, spelled
 from worlds import TURNS, Ended, NoValue, World, ending_of, term
@@ -60,7 +60,7 @@ class OwnValues:
             return self.constant(e.what[0])
         if e.kind == "override":
             return term("override", e.what[0])
-        if e.kind not in ("zero", "compose", "splat"):
+        if e.kind not in ("zero", "compose", "splat") and not is_computed(self.module, e):
             raise NoValue
         return term(self.names.in_text(word_of(self.module.own, e)), *map(self.value, e.operands))
 
@@ -259,7 +259,7 @@ class TextConstants:
                 raise NoValue
             return value
         word, *operands = parts
-        is_operator = kind == "call" and not asks(word)
+        is_operator = kind == "apply" or kind == "call" and not asks(word)
         if not is_operator or word in self.program.names and word not in self.program.struct_names:
             raise NoValue
         return term(word, *map(self.value, operands))

@@ -89,7 +89,18 @@ def own_text(module, names, h):
         return constant_text(module, names, e.what[0])
     if e.kind == "override":
         return names.overrides[e.what[0]]
-    return f"{word_of(module.own, e)}({', '.join(own_text(module, names, k) for k in e.operands)})"
+    word, operands = word_of(module.own, e), [own_text(module, names, k) for k in e.operands]
+    if e.kind == "binary":
+        return f"({operands[0]} {word} {operands[1]})"
+    return f"{word}({', '.join(operands)})"
+
+
+def is_signed_constant(module, number):
+    """Whether a constant begins with a sign where it is written: by its initialiser, if it has no name."""
+    constant = module.constants[number]
+    e = module.own.expressions[constant.init]
+    is_sign = e.kind == "unary" or e.kind == "constant" and is_signed_constant(module, e.what[0])
+    return constant.label is None and is_sign
 
 
 def constant_text(module, names, number):
@@ -196,8 +207,11 @@ class Writer:
 
     def base(self, h):
         """What a part or a swizzle is taken of, in parentheses where it begins with a sign."""
-        is_signed = self.f.expressions[h].kind == "unary" and h not in self.bound
-        return f"({self.operand(h)})" if is_signed else self.operand(h)
+        e = self.f.expressions[h]
+        is_signed = e.kind == "constant" and is_signed_constant(self.f.module, e.what[0])
+        if e.kind == "unary" and h not in self.bound or is_signed:
+            return f"({self.operand(h)})"
+        return self.operand(h)
 
     def plain(self, h):
         e = self.f.expressions[h]

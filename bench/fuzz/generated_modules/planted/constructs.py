@@ -90,10 +90,14 @@ def some_float(p):
 INFINITE = {5: (0x7f800000, 0xffc00001), 6: (0x7ff << 52, 0xfff8 << 48), 9: (0x7c00, 0xfe01)}
 
 
+def plainly(is_plain, explicit):
+    return is_plain
+
+
 def stands_as(number, bits):
     """Floats that have a numeral are decimal where a text is not plain."""
     has_numeral = numeral_of(LITERALS[number], bits) is not None
-    return (lambda is_plain, explicit: is_plain) if has_numeral else always
+    return plainly if has_numeral else always
 
 
 @in_function
@@ -146,8 +150,12 @@ def constant_of_abstract(p):
 @in_function
 def constant_of_operator(p):
     own = own_maker(p.r, p.module)
-    ty, init = within(p, own, INT, own.put("unary", INT, [0], [own.zero(INT)]))
-    return written(p, OPERATOR, constant(p, ty, init))
+    # a sign has a form where constants may apply operators, and a part has none
+    is_sign = p.chance(0.5)
+    x = own.put("unary", INT, [0], [own.zero(INT)]) if is_sign else own.put(
+        "access index", INT, [0], [own.zero(("vector", 2, I32))])
+    ty, init = within(p, own, INT, x)
+    return written(p, OPERATOR, constant(p, ty, init), stands=plainly if is_sign else always)
 
 
 @in_function
@@ -190,7 +198,8 @@ def declared_abstract(r, module, own, faults):
 
 @in_declaration
 def declared_operator(r, module, own, faults):
-    return at_item(OPERATOR, module, faults.operator())
+    # these have no form, whether constants may apply operators or not
+    return at_item(OPERATOR, module, faults.operator(("global", "load", "access index")))
 
 
 # ---- operators

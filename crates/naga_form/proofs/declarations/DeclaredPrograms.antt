@@ -22,9 +22,10 @@ use Rattle.naga_ir.specs.declared.types.AddressSpace.{AddressSpace}
 use Rattle.naga_ir.specs.declared.types.StructMember as ir_member
 use Rattle.naga_ir.specs.declared.types.Type_.{Type_}
 use Rattle.naga_ir.specs.declared.types.TypeInner.{TypeInner}
+use Rattle.naga_ir.specs.declared.types.Scalar.{Scalar}
 use Rattle.naga_ir.specs.declared.types.TypeInner.TheVariants as inner
 use Rattle.naga_info.specs.declared.info.ModuleInfo.{ModuleInfo}
-use Rattle.naga_info.specs.declared.info.TypeResolution.TheVariants.{Handle}
+use Rattle.naga_info.specs.declared.info.TypeResolution.TheVariants.{Handle, Value}
 use Rattle.naga_naming.proofs.NamedItems.{constant_stands, global_stands, override_stands}
 use Rattle.naga_naming.proofs.NamedItems.{type_stands}
 use Rattle.naga_naming.specs.Keys.{NameMap}
@@ -57,7 +58,7 @@ use Rattle.wgsl_text.specs.Expressions.{IsExpression}
 use Rattle.wgsl_text.specs.Expressions as tree_expressions
 use Rattle.wgsl_text.specs.Functions.{Each, IsValue}
 use Rattle.wgsl_text.specs.Tables.{access_words}
-use Rattle.wgsl_text.specs.Types.{IsType}
+use Rattle.wgsl_text.specs.Types.{IsType, TypeSpecifier}
 use Rattle.wgsl_text.specs.Words.{IsIdentifier, stands_in}
 use Rattle.wgsl_words.specs.Words.{space_access_word, space_word}
 use Rattle.naga_form.proofs.statements.AcceptedFunctions.{entry_point_parts}
@@ -81,6 +82,7 @@ use Rattle.naga_form.proofs.types.WrittenSizes.{written_size_fits}
 use Rattle.naga_form.proofs.types.WrittenTypes.{is_type_at, tree_there}
 use Rattle.naga_form.specs.Attributes.{stage_attributes}
 use Rattle.naga_form.specs.ConstantForms.{global_form, written_constant_form}
+use Rattle.naga_form.specs.TypeTrees.{inner_tree}
 use Rattle.naga_form.specs.Declarations.{constant_form, member_form, override_form, space_form}
 use Rattle.naga_form.specs.Declarations.{space_of_words, struct_form, variable_form}
 use Rattle.naga_form.specs.Literals.{literal_form}
@@ -180,6 +182,13 @@ module _ (m : Module) (info : ModuleInfo) (accepted : IsTrue (is_accepted m info
   formed_there ty is = let t = tree_there (type_names m) (Handle ty) is in
       (t.0, t.1, tree_is m types (Handle ty) tt t.0 t.1)
 
+  scalars_there : (s : Scalar) → has_type_form m.types (Value (inner.Scalar s)) ≡ true →
+      (tree : TypeSpecifier) × (inner_tree (type_names m) (inner.Scalar s) ≡ Some tree) × IsType tree
+  scalars_there s is =
+      let it = inner.Scalar s in
+      let t = tree_there (type_names m) (Value it) is in
+      (t.0, t.1, tree_is m types (Value it) (refl, tt, refl) t.0 t.1)
+
   override_there : (h o : ℕ) → slice_get m.global_expressions h ≡ Some (expression.Override o) →
       IsIdentifier ((type_names m).override_name o)
   override_there h o at =
@@ -189,11 +198,12 @@ module _ (m : Module) (info : ModuleInfo) (accepted : IsTrue (is_accepted m info
   -- each that is written is of the grammar, and so each constant
   pub formed_global : (h : ℕ) → global_has_form m h ≡ true → IsExpression (global_form m (type_names m) h)
   formed_global h is = global_is m (type_names m) literal_there (constant_identifier m) override_there
-      formed_there (suc h) h is
+      formed_there scalars_there (suc h) h is
 
   pub formed_constants : (c : ℕ) → constant_has_form m c ≡ true →
       IsExpression (written_constant_form m (type_names m) c)
   formed_constants = constant_is m (type_names m) literal_there (constant_identifier m) override_there formed_there
+      scalars_there
 
   -- ---- numbers
   -- those of overrides and of what variables are bound to

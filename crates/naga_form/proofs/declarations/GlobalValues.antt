@@ -3,9 +3,9 @@
 -- Throughout, m is an accepted module and info what is known of it, e is a tree over constants
 -- alone (es are several), i is the number of a constant or an override, h that of a handle, v a
 -- value, and P tells of the constants that a tree may name.
-use Rattle.std.proofs.Common.{◌≡◌, ℕ, ◌<◌, true, false, List, [], ◌∷◌, length, Option, Some, None}
-use Rattle.std.proofs.Common.{refl, sym, ap, ◌∙◌, map, slice_get}
-use Rattle.std.specs.Prelude.{IsTrue}
+use Rattle.std.proofs.Common.{◌≡◌, ℕ, ◌<◌, Bool, true, false, List, [], ◌∷◌, length, Option, Some}
+use Rattle.std.proofs.Common.{None, refl, sym, ap, ◌∙◌, map, slice_get}
+use Rattle.std.specs.Prelude.{IsTrue, cond}
 use Rattle.std.specs.Option.{option_and_then, option_map_or}
 use Rattle.std.proofs.lemmas.Option.{slice_get_within}
 use Rattle.naga_ir.specs.declared.expression.Expression.{Expression}
@@ -16,12 +16,13 @@ use Rattle.shader_runs.specs.Constants.{text_initialiser_value}
 use Rattle.shader_runs.specs.Form.{form_module_with}
 use Rattle.shader_runs.specs.Premises.{EachLeaf, EachLeafOf, IsLiteral, IsTyped, SettingsFit}
 use Rattle.shader_runs.specs.Program as shapes
-use Rattle.shader_runs.specs.Program.{ConstantTree, Fixed, NamedConstant, Composed}
+use Rattle.shader_runs.specs.Program.{ConstantTree, Fixed, Joining, NamedConstant, Composed}
 use Rattle.shader_runs.specs.Program.{ConstantTrees, no_constant, constant}
-use Rattle.shader_runs.specs.ProgramRun.{also, operator_value, tree_value, tree_values}
+use Rattle.shader_runs.specs.ProgramRun.{also, constant_logic, decides, operator_value, tree_value}
+use Rattle.shader_runs.specs.ProgramRun.{tree_values, undecided_value}
 use Rattle.shader_runs.specs.Scope.{ModuleNames}
 use Rattle.shader_runs.specs.Text.{TextModule}
-use Rattle.shader_runs.specs.Value.{Spelled, Value}
+use Rattle.shader_runs.specs.Value.{ShortCircuit, Spelled, Value}
 use Rattle.shader_runs.specs.World.{Environment, Meaning, Settings, Vocabulary, World}
 use Rattle.shader_runs.proofs.Constants.{constants_are_computed}
 use Rattle.shader_runs.proofs.Form.{has_type_at}
@@ -42,7 +43,7 @@ use Rattle.module_semantics.specs.Types.{type_names}
 use Rattle.naga_form.specs.ConstantForms.{global_form}
 use Rattle.naga_form.specs.Declarations.{program_under}
 use Rattle.naga_form.specs.GlobalValues.{HasValueOf}
-use Rattle.naga_form.proofs.declarations.AcceptedGroups.{declarations_are}
+use Rattle.naga_form.proofs.operators.ToldScalars.{globals_are_known}
 use Rattle.naga_form.proofs.operators.BuiltTrees.{AreBuilt, IsBuilt, formed_is_built}
 use Rattle.naga_form.proofs.names.DeclaredNames.{one_vocabulary}
 use Rattle.naga_form.proofs.ModuleFits.{constants as constants_fit, global_in_range, global_words}
@@ -58,6 +59,16 @@ use Rattle.naga_back.specs.declared.flags.WriterFlags.{WriterFlags}
 -- where each constant that a tree may name has a value, so has the tree
 module _ (known : ℕ → Option Value) (meaning : Meaning) (P : ℕ → Type 0)
     (there : (i : ℕ) → P i → (v : Value) × (known i ≡ Some v)) where
+  -- so have `&&` and `||` of two values
+  logic_has_value : (j : ShortCircuit) (a b : Value) →
+      (v : Value) × (constant_logic meaning j (Some b) a ≡ Some v)
+  logic_has_value j a b = by (decides j a)
+    where
+      by : (decided : Bool) →
+          (v : Value) × (cond decided (Some a) (Some (undecided_value meaning j a b)) ≡ Some v)
+      by true = (a, refl)
+      by false = (undecided_value meaning j a b, refl)
+
   mutual
     tree_has_value : (e : ConstantTree) → IsBuilt e → EachLeaf IsLiteral P e →
         (v : Value) × (tree_value known meaning e ≡ Some v)
@@ -66,6 +77,14 @@ module _ (known : ℕ → Option Value) (meaning : Meaning) (P : ℕ → Type 0)
     tree_has_value (Composed w ty es) is leaves =
         let vs = trees_have_values es is leaves in
         (meaning (Spelled w) vs.0, ap (operator_value meaning (Spelled w)) vs.1)
+    tree_has_value (Joining j ty l r) is leaves =
+        let left = tree_has_value l is.0 leaves.0 in
+        let right = tree_has_value r is.1 leaves.1 in
+        let both = logic_has_value j left.0 right.0 in (
+          both.0,
+          ap (option_and_then (constant_logic meaning j (tree_value known meaning r))) left.1
+              ∙ (ap (λ o. constant_logic meaning j o left.0) right.1 ∙ both.1),
+        )
     tree_has_value _ is leaves = absurd is
 
     trees_have_values : (es : ConstantTrees) → AreBuilt es → EachLeafOf IsLiteral P es →
@@ -115,7 +134,7 @@ module _ (m : Module) (info : ModuleInfo) (accepted : IsTrue (is_accepted m info
   reads_constants have flags labels =
       let text = program_read (program_under labels m info flags) in
       λ i. record {
-        constants = constants_read m info (declarations_are m info accepted).size have i;
+        constants = constants_read m info (globals_are_known m info accepted) have i;
         overrides = overrides_read m info i;
         globals = read_as_they_are m 0 m.global_variables i;
         functions = text.functions;
@@ -126,10 +145,10 @@ module _ (m : Module) (info : ModuleInfo) (accepted : IsTrue (is_accepted m info
       (typed : IsTyped shape meaning) (h : ℕ) (is : IsTrue (global_has_form m h)) where
     -- what is written of it is read as its tree
     abbrev tree : ConstantTree
-    tree = (formed_is_read m info (declarations_are m info accepted).size h is).0
+    tree = (formed_is_read m info (globals_are_known m info accepted) h is).0
 
     tree_is : global_tree m info h ≡ Some tree
-    tree_is = (formed_is_read m info (declarations_are m info accepted).size h is).1
+    tree_is = (formed_is_read m info (globals_are_known m info accepted) h is).1
 
     -- there is a value
     pub global_has_value :
@@ -159,7 +178,7 @@ module _ (m : Module) (info : ModuleInfo) (accepted : IsTrue (is_accepted m info
         global_expression_value m info settings meaning h
     values_alike have flags labels world =
         let program : Program = program_under labels m info flags in
-        let own = formed_is_read m info (declarations_are m info accepted).size h is in
+        let own = formed_is_read m info (globals_are_known m info accepted) h is in
         ap
         (λ (vocabulary : Vocabulary).
         text_initialiser_value (program_read program) shape.parts settings world meaning vocabulary

@@ -48,7 +48,8 @@ use Rattle.module_semantics.specs.Types.{declared_type, type_names, word_of_valu
 use Rattle.module_semantics.specs.Undeclared.{is_spellable}
 use Rattle.module_semantics.specs.ExpressionForms.{global_has_form}
 use Rattle.module_semantics.proofs.ExpressionForms.{type_form_of_spellable}
-use Rattle.naga_form.specs.ConstantForms.{global_form}
+use Rattle.naga_form.proofs.operators.ToldScalars.{GlobalsAreKnown}
+use Rattle.naga_form.specs.ConstantForms.{global_form, told_type}
 use Rattle.naga_form.specs.Declarations.{constant_form, override_form, space_form}
 use Rattle.naga_form.specs.Declarations.{space_of_words, variable_form}
 use Rattle.naga_form.specs.TypeTrees.{pointer_tree_in, type_tree}
@@ -102,13 +103,13 @@ variable_read m v is = by v.space
 
 -- what is written of the module's own expressions is read as its tree
 pub formed_is_read : (m : Module) (info : ModuleInfo) →
-    length m.global_expressions ≡ length info.const_expression_types.items → (h : ℕ) →
+    GlobalsAreKnown m info → (h : ℕ) →
     global_has_form m h ≡ true →
     IsReadAs (outer_names (module_names m) m) (global_tree m info h)
     (global_form m (type_names m) h)
-formed_is_read m info size h is =
+formed_is_read m info known h is =
     globals_read (outer_names (module_names m) m) m info (type_names m)
-    (spelled_as_trees m (λ h. None)) (names_are_read m) size h is
+    (spelled_as_trees m (told_type m)) (names_are_read m) known h is
 
 module _ (m : Module) where
   abbrev names : NameMap
@@ -263,7 +264,7 @@ module _ (m : Module) where
         constants_named_from 0 0 m.constants
         (λ i. let same : i ≡ 0 + i = omega arith in ap (slice_get all) same)
 
-    module _ (size : length m.global_expressions ≡ length info.const_expression_types.items)
+    module _ (known : GlobalsAreKnown m info)
         (have : ConstantsHaveForms m) where
       constants_read_from : (k number : ℕ) (cs : List Constant) →
           ((i : ℕ) (c : Constant) → slice_get cs i ≡ Some c → is_named c ≡ true →
@@ -297,7 +298,7 @@ module _ (m : Module) where
               constants_from outer number
               (map (initialiser m info) (if b then c ∷ filter is_named cs else filter is_named cs))
           by true named here more =
-              let is = formed_is_read m info size c.init (initial 0 c refl named) in
+              let is = formed_is_read m info known c.init (initial 0 c refl named) in
               let first : Some k ≡ slice_get all number =
               here 0 ∙ ap (slice_get all) (add-zero number) in
               let name : constant_name names k ≡ outer.constant number =

@@ -32,7 +32,7 @@ use Rattle.module_semantics.specs.Namings.{outer_names}
 use Rattle.naga_form.specs.Declarations.{program_under}
 use Rattle.naga_form.specs.Functions.{function_form, functions_under}
 use Rattle.naga_form.proofs.statements.AcceptedFunctions.{functions_counted}
-use Rattle.naga_form.proofs.declarations.AcceptedGroups.{declarations_are}
+use Rattle.naga_form.proofs.operators.ToldScalars.{globals_are_known}
 use Rattle.naga_form.proofs.ModuleFits.{constants, functions_tell}
 use Rattle.naga_form.proofs.declarations.ReadDeclarations.{constants_named, constants_read}
 use Rattle.naga_form.proofs.declarations.ReadDeclarations.{overrides_read}
@@ -103,7 +103,7 @@ module _ (m : Module) (info : ModuleInfo) (flags : WriterFlags) (named : LabelNa
     pub reads_items : ItemsHaveForms m →
         program_read program ≡ form_module_with p n (program_read program).functions
     reads_items items =
-        let own = (declarations_are m info accepted).size in
+        let own = globals_are_known m info accepted in
         λ i. record {
           constants = constants_read m info own items.constants i;
           overrides = overrides_read m info i;

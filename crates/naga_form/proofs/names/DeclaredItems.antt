@@ -39,7 +39,8 @@ use Rattle.wgsl_text.specs.Types.{Named, plain_type_words}
 use Rattle.wgsl_text.specs.Words.{stands_in}
 use Rattle.naga_form.proofs.statements.AcceptedFunctions.{entry_points_counted}
 use Rattle.naga_form.proofs.statements.AcceptedFunctions.{entry_point_parts}
-use Rattle.naga_form.proofs.declarations.AcceptedGroups.{declarations_are, fit_of}
+use Rattle.naga_form.proofs.declarations.AcceptedGroups.{fit_of}
+use Rattle.naga_form.proofs.operators.ToldScalars.{globals_are_known}
 use Rattle.naga_form.proofs.declarations.AcceptedGroups.{types_are_counted, types_are_fit}
 use Rattle.naga_form.proofs.declarations.DeclaredStructs.{members_found, override_not_found}
 use Rattle.naga_form.proofs.declarations.DeclaredStructs.{own_members_found, struct_found}
@@ -116,7 +117,7 @@ module _ (m : Module) (info : ModuleInfo) (flags : WriterFlags) (labels : LabelN
           (map (initialiser m info) (if b then c ∷ filter is_named cs else filter is_named cs)))
       by true named rest =
           let written = is 0 c refl named in
-          let read = formed_is_read m info (declarations_are m info accepted).size c.init written in
+          let read = formed_is_read m info (globals_are_known m info accepted) c.init written in
           let here =
           initialiser_found m info flags labels accepted c.init written
           ∙ (ap (λ o. map Some (option_map_or constant_targets o [])) read.1

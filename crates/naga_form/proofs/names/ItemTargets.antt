@@ -28,7 +28,7 @@ use Rattle.shader_runs.specs.Scope.{ModuleNames}
 use Rattle.shader_runs.proofs.Resolution.{constant_stands, global_stands, tree_resolves}
 use Rattle.text_semantics.specs.Abstraction.{expression_read, program_read}
 use Rattle.wgsl_text.specs.Declarations.{Program}
-use Rattle.naga_form.proofs.declarations.AcceptedGroups.{declarations_are}
+use Rattle.naga_form.proofs.operators.ToldScalars.{globals_are_known}
 use Rattle.naga_form.proofs.operators.ConstantForms.{global_read, names_are_read}
 use Rattle.naga_form.proofs.operators.ConstantTrees.{globals_are}
 use Rattle.naga_form.proofs.names.DistinguishedItems.{types_are_distinguished}
@@ -38,7 +38,7 @@ use Rattle.naga_form.proofs.ModuleFits.{counts, global_words}
 use Rattle.naga_form.proofs.declarations.NamedConstants.{override_within}
 use Rattle.naga_form.proofs.operators.Operators.{spelled_as_trees, SpellsTypes}
 use Rattle.naga_form.proofs.declarations.TextItems.{items_fit, reads_names}
-use Rattle.naga_form.specs.ConstantForms.{global_form}
+use Rattle.naga_form.specs.ConstantForms.{global_form, told_context, told_type}
 use Rattle.naga_form.specs.Declarations.{program_under}
 use Rattle.naga_back.specs.declared.flags.WriterFlags.{WriterFlags}
 
@@ -84,8 +84,8 @@ module _ (m : Module) (info : ModuleInfo) (flags : WriterFlags) (named : LabelNa
       ∙ constant_stands p n fs fits (override_number m o) (override_within m info o x.0 x.1))
 
   -- ---- initialisers
-  spells : SpellsTypes m (expression_context m (λ h. None)) (type_names m)
-  spells = spelled_as_trees m (λ h. None)
+  spells : SpellsTypes m (told_context m) (type_names m)
+  spells = spelled_as_trees m (told_type m)
 
   -- one that is written names what its tree does
   pub initialiser_found : (h : ℕ) → global_has_form m h ≡ true →
@@ -93,7 +93,7 @@ module _ (m : Module) (info : ModuleInfo) (flags : WriterFlags) (named : LabelNa
       ≡ map Some (option_map_or constant_targets (global_tree m info h) [])
   initialiser_found h is =
       let read = global_read n m info (type_names m) spells (names_are_read m)
-      (declarations_are m info accepted).size (suc h) h is in
+      (globals_are_known m info accepted) (suc h) h is in
       let tree =
       globals_are m info accepted (types_are_distinguished m) h read.0 read.1 in
       ap (tree_targets names) read.2

@@ -1,37 +1,46 @@
--- The tree of each of the module's own expressions that has a form is built of literals, names and
--- values of types from parts alone: it has no index, no part and no `&&` or `||`.
+-- The tree of each of the module's own expressions that has a form is built of literals, names,
+-- operators over trees, and `&&` and `||`: it has no index and no part.
+--
+-- Throughout, m is a module, info what is known of it, own tells which of its own expressions have
+-- forms, global their trees, h is a handle (hs are several), e or x an expression or what tells of
+-- it, t a tree (ts are several), o or op an operator, and j a short circuit.
 use Rattle.std.proofs.Common.{◌≡◌, ℕ, zero, suc, Bool, true, false, List, [], ◌∷◌, Option, Some}
 use Rattle.std.proofs.Common.{None, refl, subst, slice_get, length, if◌then◌else◌}
 use Rattle.std.specs.List.{list_all}
-use Rattle.std.specs.Prelude.{◌||◌, unwrap_or}
+use Rattle.std.specs.Prelude.{◌&&◌, ◌||◌, unwrap_or}
 use Rattle.std.specs.Option.{option_map, option_map_or, option_and_then, is_some}
 use Rattle.std.proofs.lemmas.Bool.{and_parts}
 use Rattle.std.proofs.lemmas.Option.{same_Some}
 use Rattle.naga_info.proofs.Options.{then_some, map_some}
 use Rattle.naga_info.specs.declared.info.ModuleInfo.{ModuleInfo}
 use Rattle.naga_info.specs.declared.info.TypeResolution.TheVariants.{Handle}
+use Rattle.naga_ir.specs.Operands.{expression_operands}
 use Rattle.naga_ir.specs.declared.expression.Expression.{Expression}
 use Rattle.naga_ir.specs.declared.expression.Expression.TheVariants as expression
 use Rattle.naga_ir.specs.declared.module.Constant.{Constant}
 use Rattle.naga_ir.specs.declared.module.Module.{Module}
+use Rattle.naga_ir.specs.declared.operators.BinaryOperator.TheVariants as binary
 use Rattle.module_semantics.specs.ExpressionContexts.{constant_number, constant_over, declared_over}
 use Rattle.module_semantics.specs.ExpressionContexts.{global_tree, global_tree_within}
 use Rattle.module_semantics.specs.ExpressionContexts.{global_types_known, zero_of_type}
 use Rattle.module_semantics.specs.ExpressionForms.{constant_has_form_over, global_has_form}
 use Rattle.module_semantics.specs.ExpressionForms.{global_has_form_over, global_has_form_within}
-use Rattle.module_semantics.specs.ExpressionOperators.{constructor}
-use Rattle.module_semantics.specs.ExpressionShapes.{ModuleDeclarations, built, computed_over, tree_then, trees}
-use Rattle.module_semantics.specs.ExpressionShapes.{trees_of}
-use Rattle.module_semantics.specs.OperatorTable.{Operator, Splat, run_word}
+use Rattle.module_semantics.specs.ExpressionForms.{operator_has_form}
+use Rattle.module_semantics.specs.ExpressionOperators.{applied_operator, constructor}
+use Rattle.module_semantics.specs.ExpressionShapes.{ModuleDeclarations, built, computed_over, joined}
+use Rattle.module_semantics.specs.ExpressionShapes.{operated, over_two, tree_then, trees, trees_of}
+use Rattle.module_semantics.specs.OperatorTable.{Operator, Splat, asks, run_word}
 use Rattle.module_semantics.specs.Undeclared.{is_spellable}
-use Rattle.shader_runs.specs.Program.{ConstantTree, Fixed, NamedConstant, Composed}
+use Rattle.shader_runs.specs.Program.{ConstantTree, Fixed, NamedConstant, Composed, Joining}
 use Rattle.shader_runs.specs.Program.{ConstantTrees, no_constant, constant}
+use Rattle.shader_runs.specs.Value.{ShortCircuit, ShortCircuitAnd, ShortCircuitOr}
 
 abbrev mutual
   pub IsBuilt : ConstantTree → Type 0
   IsBuilt (Fixed v) = Unit {0}
   IsBuilt (NamedConstant i) = Unit {0}
   IsBuilt (Composed w ty es) = AreBuilt es
+  IsBuilt (Joining j ty l r) = IsBuilt l × IsBuilt r
   IsBuilt _ = ⊥
 
   pub AreBuilt : ConstantTrees → Type 0
@@ -89,6 +98,53 @@ module _ (m : Module) (info : ModuleInfo) where
         by None is e = absurd cc
         by (Some k) is e = subst IsBuilt (same_Some _ t e) (written k (is_some k.name) is)
 
+    -- an operator over such trees
+    operated_built : (h : ℕ) (hs : List ℕ) → list_all own hs ≡ true → (o : Option Operator) →
+        (t : ConstantTree) → operated inside global h hs o ≡ Some t → IsBuilt t
+    operated_built h hs is None t e = absurd cc
+    operated_built h hs is (Some op) t e = by (asks op) e
+      where
+        by : (b : Bool) →
+            (if b then None else option_and_then (built inside h op) (trees_of global hs)) ≡ Some t →
+            IsBuilt t
+        by true e = absurd cc
+        by false e =
+            let ts = then_some (built inside h op) (trees_of global hs) t e in
+            made_built h op ts.0 (all_built hs is ts.0 ts.1) t ts.2
+
+    joined_built : (h : ℕ) (j : ShortCircuit) (left right : ℕ) →
+        list_all own (left ∷ right ∷ []) ≡ true → (t : ConstantTree) →
+        over_two (joined inside h j) (global left) (global right) ≡ Some t → IsBuilt t
+    joined_built h j left right is t e =
+        let both = and_parts (own left) (list_all own (right ∷ [])) is in
+        let l = then_some (λ a. option_and_then (joined inside h j a) (global right)) (global left) t e in
+        let r = then_some (joined inside h j l.0) (global right) t l.2 in
+        let made = map_some (λ ty. Joining j (inside.value_type ty) l.0 r.0)
+        (global_types_known info h) t r.2 in
+        subst IsBuilt made.2 (
+          each left both.0 l.0 l.1,
+          each right (and_parts (own right) (list_all own []) both.1).0 r.0 r.1,
+        )
+
+    operator_built : (h : ℕ) (x : Expression) → operator_has_form m x ≡ true →
+        list_all own (expression_operands x) ≡ true → (t : ConstantTree) →
+        computed_over inside global h x ≡ Some t → IsBuilt t
+    operator_built h (expression.Literal value) has is t e = absurd cc
+    operator_built h (expression.Constant c) has is t e = absurd cc
+    operator_built h (expression.Override o) has is t e = absurd cc
+    operator_built h (expression.ZeroValue ty) has is t e = absurd cc
+    operator_built h (expression.Compose ty components) has is t e = absurd cc
+    operator_built h (expression.Splat size value) has is t e = absurd cc
+    operator_built h (expression.Access base index) has is t e = absurd cc
+    operator_built h (expression.AccessIndex base index) has is t e = absurd cc
+    operator_built h (expression.Swizzle size vector pattern) has is t e = absurd cc
+    operator_built h (expression.Binary binary.LogicalAnd left right) has is t e =
+        joined_built h ShortCircuitAnd left right is t e
+    operator_built h (expression.Binary binary.LogicalOr left right) has is t e =
+        joined_built h ShortCircuitOr left right is t e
+    operator_built h x has is t e =
+        operated_built h (expression_operands x) is (applied_operator inside.context x) t e
+
     over_built : (h : ℕ) (e : Expression) → global_has_form_over m own e ≡ true →
         (t : ConstantTree) → computed_over inside global h e ≡ Some t → IsBuilt t
     over_built h (expression.Literal value) is t e = subst IsBuilt (same_Some _ t e) tt
@@ -105,7 +161,13 @@ module _ (m : Module) (info : ModuleInfo) where
     over_built h (expression.Splat size value) is t e =
         let one = then_some (λ u. built inside h (Splat size) (u ∷ [])) (global value) t e in
         made_built h (Splat size) (one.0 ∷ []) (each value is one.0 one.1, tt) t one.2
-    over_built h _ is t e = absurd cc
+    over_built h x is t e =
+        let asked =
+        and_parts m.computes_constants
+        (operator_has_form m x && list_all own (expression_operands x)) is in
+        let both =
+        and_parts (operator_has_form m x) (list_all own (expression_operands x)) asked.1 in
+        operator_built h x both.0 both.1 t e
 
   within_built : (levels h : ℕ) → global_has_form_within levels m h ≡ true → (t : ConstantTree) →
       global_tree_within levels m info h ≡ Some t → IsBuilt t

@@ -1,6 +1,5 @@
 -- Trees of the module's own expressions, computed over those of their operands: what holds of each
--- tree that is made of such trees holds of each of them; and what has a form is computed as it is
--- written.
+-- tree that is made of such trees holds of each of them.
 use Rattle.std.proofs.Common.{◌≡◌, ℕ, Bool, true, false, List, [], ◌∷◌, Option, Some, None, refl}
 use Rattle.std.proofs.Common.{subst}
 use Rattle.std.specs.List.{AllByRecursion}
@@ -12,8 +11,6 @@ use Rattle.naga_ir.specs.Operands.{expression_operands}
 use Rattle.naga_ir.specs.declared.expression.Expression.{Expression}
 use Rattle.naga_ir.specs.declared.expression.Expression.TheVariants as expression
 use Rattle.naga_ir.specs.declared.operators.BinaryOperator.TheVariants as binary
-use Rattle.naga_ir.specs.declared.module.Module.{Module}
-use Rattle.module_semantics.specs.ExpressionForms.{global_has_form_over}
 use Rattle.module_semantics.specs.ExpressionOperators.{applied_operator, part_operator}
 use Rattle.module_semantics.specs.ExpressionShapes.{ModuleDeclarations, built, computed_over, has_values}
 use Rattle.module_semantics.specs.ExpressionShapes.{indexed, operated, over_two, part_selector}
@@ -128,16 +125,3 @@ module _ (d : ModuleDeclarations) (tree_of : ℕ → Option ConstantTree) (Q : C
       of_two h (Joining ShortCircuitOr) (made.joining ShortCircuitOr) left right all.0 all.1.0 t e
   of_computed h e written all word t is =
       of_operator h (expression_operands e) all (applied_operator d.context e) word t is
-
--- ---- what has a form
--- it is computed as it is written
-pub computed_as_formed : (m : Module) (d : ModuleDeclarations) (tree_of : ℕ → Option ConstantTree) (h : ℕ)
-    (own : ℕ → Bool) (e : Expression) → global_has_form_over m own e ≡ true →
-    computed_over d tree_of h e ≡ tree_over d tree_of h e
-computed_as_formed m d tree_of h own (expression.Literal value) is = refl
-computed_as_formed m d tree_of h own (expression.Constant handle) is = refl
-computed_as_formed m d tree_of h own (expression.Override handle) is = refl
-computed_as_formed m d tree_of h own (expression.ZeroValue ty) is = refl
-computed_as_formed m d tree_of h own (expression.Compose ty components) is = refl
-computed_as_formed m d tree_of h own (expression.Splat size value) is = refl
-computed_as_formed m d tree_of h own _ is = absurd cc

@@ -1,12 +1,13 @@
--- Constants that are written out: their forms are read as their trees, and are of the grammar.
+-- Constants that are written out, and operators over them: their forms are read as their trees, and
+-- are of the grammar.
 --
 -- Throughout, outer are the module's names, m is a module, es is what is known of a function's
 -- expressions or these themselves, t are the names that types are spelled with, W says which handles
--- are written, h is a handle, e an expression, k a constant, and c a tree of constants or the handle
--- of one.
+-- are written, h is a handle, e an expression, k a constant, j a short circuit, and c a tree of
+-- constants or the handle of one.
 use Rattle.std.proofs.Common.{◌≡◌, ℕ, zero, suc, ◌<◌, Bool, true, false, List, [], ◌∷◌, Option}
 use Rattle.std.proofs.Common.{Some, None, refl, sym, ap, ◌∙◌, subst, length, map}
-use Rattle.std.specs.Prelude.{◌||◌, slice_get, if◌then◌else◌, unwrap_or}
+use Rattle.std.specs.Prelude.{◌&&◌, ◌||◌, slice_get, if◌then◌else◌, unwrap_or}
 use Rattle.std.specs.List.{AllByRecursion, list_all}
 use Rattle.std.specs.Option.{is_some, option_and_then, option_map, option_map_or}
 use Rattle.std.proofs.lemmas.Bool.{and_parts}
@@ -14,18 +15,22 @@ use Rattle.std.proofs.lemmas.Option.{slice_get_within}
 use Rattle.module_semantics.proofs.ExpressionForms.{declared_of_spellable, type_form_of_spellable}
 use Rattle.module_semantics.specs.AlikeTypes.{has_type_form}
 use Rattle.module_semantics.specs.Undeclared.{is_spellable, is_undeclared_struct}
-use Rattle.module_semantics.specs.ExpressionOperators.{ExpressionContext, constructor}
-use Rattle.module_semantics.specs.ExpressionShapes.{ModuleDeclarations, built, computed_over, tree_over}
+use Rattle.module_semantics.proofs.ExpressionShapes.{cast_asks}
+use Rattle.module_semantics.specs.Conversions.{converted_scalar, keeps_bits}
+use Rattle.module_semantics.specs.ExpressionOperators.{ExpressionContext, cast, constructor}
+use Rattle.module_semantics.specs.ExpressionOperators.{type_known}
+use Rattle.module_semantics.specs.ExpressionShapes.{ModuleDeclarations, built, computed_over, joined}
+use Rattle.module_semantics.specs.ExpressionShapes.{operated, over_two, tree_over}
 use Rattle.module_semantics.specs.ExpressionShapes.{tree_then, tree_within, trees, trees_of}
-use Rattle.naga_form.proofs.operators.ComputedTrees.{computed_as_formed}
 use Rattle.module_semantics.specs.Literals.{literal_value}
 use Rattle.module_semantics.specs.Names.{constant_name, module_names}
 use Rattle.module_semantics.specs.Namings.{outer_names}
-use Rattle.module_semantics.specs.OperatorTable.{Operator, Splat, run_word}
+use Rattle.module_semantics.specs.OperatorTable.{BinarySign, Math, Operator, Relational, Select}
+use Rattle.module_semantics.specs.OperatorTable.{Splat, UnarySign, asks, run_word}
 use Rattle.module_semantics.specs.ExpressionForms.{constant_has_form, constant_has_form_over}
 use Rattle.module_semantics.specs.ExpressionForms.{expression_has_own_form, global_has_form}
 use Rattle.module_semantics.specs.ExpressionForms.{global_has_form_over, global_has_form_within}
-use Rattle.module_semantics.specs.ExpressionForms.{literal_has_form}
+use Rattle.module_semantics.specs.ExpressionForms.{literal_has_form, operator_has_form}
 use Rattle.module_semantics.specs.ExpressionContexts.{constant_number, constant_over, declared}
 use Rattle.module_semantics.specs.ExpressionContexts.{declared_over, global_tree, global_tree_within}
 use Rattle.module_semantics.specs.ExpressionContexts.{global_types_known, override_number}
@@ -39,37 +44,50 @@ use Rattle.naga_form.proofs.declarations.NamedConstants.{constant_numbered, over
 use Rattle.naga_form.proofs.types.SameValues.{or_nothing}
 use Rattle.naga_form.proofs.statements.WrittenHandles.{all_map}
 use Rattle.naga_form.proofs.operators.Literals.{literal_read}
-use Rattle.naga_form.proofs.operators.Operators.{IsCalled, SpellsTypes, called_applied}
+use Rattle.naga_form.proofs.operators.Operators.{IsCalled, Spells, SpellsTypes, called_applied}
+use Rattle.naga_form.proofs.operators.Operators.{cast_called, cast_callee, cast_spelled}
+use Rattle.naga_form.proofs.operators.Operators.{conversion_is, operator_row, unary_row}
 use Rattle.naga_form.proofs.operators.Operators.{constructor_called, constructor_spelled, HasFormAt}
 use Rattle.naga_form.proofs.operators.Operators.{typed_notation}
 use Rattle.naga_form.proofs.operators.CalledWords.{word_is_called}
+use Rattle.naga_form.proofs.operators.ToldScalars.{GlobalsAreKnown, told_conversion}
 use Rattle.naga_form.specs.ConstantForms.{built_form, constant_form_by, constant_form_over}
-use Rattle.naga_form.specs.ConstantForms.{constant_form_within, global_form, global_form_within}
-use Rattle.naga_form.specs.ConstantForms.{no_constant_form, written_constant_form}
+use Rattle.naga_form.specs.ConstantForms.{constant_form_within, global_form, global_form_over}
+use Rattle.naga_form.specs.ConstantForms.{global_form_within, no_constant_form, told_context}
+use Rattle.naga_form.specs.ConstantForms.{told_type, written_constant_form}
 use Rattle.naga_form.specs.Literals.{literal_form}
-use Rattle.naga_form.specs.Operators.{applied_form, notation}
-use Rattle.naga_form.specs.TypeTrees.{type_tree}
+use Rattle.naga_form.specs.Operators.{applied_form, notation, operator_form, unary_form}
+use Rattle.naga_form.specs.OperatorTypes.{cast_tree, operator_type}
+use Rattle.naga_form.specs.TypeTrees.{inner_tree, type_tree}
 use Rattle.naga_info.specs.declared.info.TypeResolution.{TypeResolution}
-use Rattle.naga_info.specs.declared.info.TypeResolution.TheVariants.{Handle}
+use Rattle.naga_info.specs.declared.info.TypeResolution.TheVariants.{Handle, Value}
+use Rattle.naga_info.specs.Resolution.{inner_of}
 use Rattle.naga_ir.specs.Operands.{expression_operands}
 use Rattle.naga_ir.specs.declared.expression.Expression as ir
 use Rattle.naga_ir.specs.declared.expression.Expression.TheVariants as expression
+use Rattle.naga_ir.specs.declared.operators.BinaryOperator.{BinaryOperator}
+use Rattle.naga_ir.specs.declared.operators.BinaryOperator.TheVariants as operator
+use Rattle.naga_ir.specs.declared.operators.UnaryOperator.{UnaryOperator}
+use Rattle.naga_ir.specs.declared.types.Scalar.{Scalar}
+use Rattle.naga_ir.specs.declared.types.TypeInner.TheVariants as inner
 use Rattle.naga_ir.specs.declared.module.Constant as ir_constant
 use Rattle.naga_ir.specs.declared.module.Module.{Module}
 use Rattle.naga_naming.proofs.Refusal.{element}
 use Rattle.naga_naming.specs.declared.key.NameKey.TheVariants as key
 use Rattle.naga_spelling.specs.Contexts.{Names as TypeNames}
 use Rattle.shader_runs.specs.Form.{constant_form, constant_forms}
-use Rattle.shader_runs.specs.Program.{ConstantTree, Composed, Fixed, NamedConstant}
+use Rattle.shader_runs.specs.Program.{ConstantTree, Composed, Fixed, Joining, NamedConstant}
 use Rattle.shader_runs.specs.Scope.{ModuleNames}
-use Rattle.shader_runs.specs.Text.{Apply, LiteralOf, Name, more, no_more}
+use Rattle.shader_runs.specs.Text.{Apply, LiteralOf, LogicalOf, Name, more, no_more}
+use Rattle.shader_runs.specs.Value.{ShortCircuit, ShortCircuitAnd, ShortCircuitOr}
 use Rattle.text_semantics.specs.Abstraction.{arguments_read, expression_read}
 use Rattle.wgsl_text.proofs.Building.{called_words}
 use Rattle.wgsl_text.specs.Expressions.{Constant, Expression, IsExpression, Name as NameExpression}
-use Rattle.wgsl_text.specs.Expressions.{operands}
+use Rattle.wgsl_text.specs.Expressions.{Binary as BinaryExpression, Call, IsCallee, operands}
+use Rattle.wgsl_text.specs.Expressions.{Unary as UnaryExpression}
 use Rattle.wgsl_text.specs.Functions.{Each}
 use Rattle.wgsl_text.specs.Words.{IsIdentifier}
-use Rattle.wgsl_text.specs.Types.{Named}
+use Rattle.wgsl_text.specs.Types.{IsType, Named, TypeSpecifier}
 
 -- there is a tree, and the form is read as it
 abbrev pub IsReadAs : ModuleNames → Option ConstantTree → Expression → Type 0
@@ -177,6 +195,79 @@ module _ (outer : ModuleNames) (m : Module) (constants : ℕ → Option Constant
         called_by_word size type = refl
     over_read h is _ out = absurd out
 
+    -- ---- operators
+    -- one whose text is its word over that of its operands
+    operated_read : (h : ℕ) → is_some (known h) ≡ true → (op : Operator) → asks op ≡ false →
+        (xs : List ℕ) → AllByRecursion ReadsOut xs → (form : Expression) →
+        expression_read form ≡ Apply (run_word op) (arguments_read (operands (map part xs))) →
+        IsReadAs outer (operated d tree_of h xs (Some op)) form
+    operated_read h is op quiet xs all form read =
+        let ps = parts_read xs all in
+        let b = built_read h is op ps.0 form (read ∙ ap (Apply (run_word op)) ps.2) in (
+          b.0,
+          ap
+              (λ asked.
+              if asked then None else option_and_then (built d h op) (trees_of tree_of xs)) quiet
+              ∙ (ap (option_and_then (built d h op)) ps.1 ∙ b.1),
+          b.2,
+        )
+
+    -- one that is called
+    called_read : (h : ℕ) → is_some (known h) ≡ true → (type : Option TypeSpecifier)
+        (op : Operator) → Spells type op → IsCalled op → asks op ≡ false → (xs : List ℕ) →
+        AllByRecursion ReadsOut xs →
+        IsReadAs outer (operated d tree_of h xs (Some op))
+        (applied_form (notation type op) (map part xs))
+    called_read h is type op spelled called quiet xs all =
+        operated_read h is op quiet xs all (applied_form (notation type op) (map part xs))
+        (called_applied op called type spelled (map part xs))
+
+    -- `&&` and `||`
+    joined_read : (h : ℕ) → is_some (known h) ≡ true → (j : ShortCircuit) (left right : ℕ) →
+        ReadsOut left → ReadsOut right → (form : Expression) →
+        expression_read form ≡
+        LogicalOf j (expression_read (part left)) (expression_read (part right)) →
+        IsReadAs outer (over_two (joined d h j) (tree_of left) (tree_of right)) form
+    joined_read h is j left right l r form read = by (known h) is
+      where
+        make : Option TypeResolution → (a b : ConstantTree) → Option ConstantTree
+        make o a b = option_map (λ r. Joining j (d.value_type r) a b) o
+
+        by : (o : Option TypeResolution) → is_some o ≡ true →
+            IsReadAs outer (over_two (make o) (tree_of left) (tree_of right)) form
+        by (Some ty) is = (
+          Joining j (d.value_type ty) l.0 r.0,
+          ap (λ a. over_two (make (Some ty)) a (tree_of right)) l.1
+              ∙ ap (over_two (make (Some ty)) (Some l.0)) r.1,
+          read ∙ (λ i. LogicalOf j (l.2 i) (r.2 i)),
+        )
+        by None is = absurd cc
+
+    binary_read : (h : ℕ) → is_some (known h) ≡ true → (op : BinaryOperator) (left right : ℕ) →
+        ReadsOut left → ReadsOut right →
+        IsReadAs outer (computed_over d tree_of h (expression.Binary op left right))
+        (BinaryExpression (part left) (operator_form op) (part right))
+    binary_read h is operator.LogicalAnd left right l r =
+        joined_read h is ShortCircuitAnd left right l r
+        (BinaryExpression (part left) (operator_form operator.LogicalAnd) (part right)) refl
+    binary_read h is operator.LogicalOr left right l r =
+        joined_read h is ShortCircuitOr left right l r
+        (BinaryExpression (part left) (operator_form operator.LogicalOr) (part right)) refl
+    binary_read h is op left right l r =
+        operated_read h is (BinarySign op) refl (left ∷ right ∷ []) (l, r, tt)
+        (BinaryExpression (part left) (operator_form op) (part right))
+        (λ i.
+        Apply (sym (operator_row op) i)
+        (more (expression_read (part left)) (more (expression_read (part right)) no_more)))
+
+    unary_read : (h : ℕ) → is_some (known h) ≡ true → (op : UnaryOperator) (x : ℕ) → ReadsOut x →
+        IsReadAs outer (operated d tree_of h (x ∷ []) (Some (UnarySign op)))
+        (UnaryExpression (unary_form op) (part x))
+    unary_read h is op x read =
+        operated_read h is (UnarySign op) refl (x ∷ []) (read, tt)
+        (UnaryExpression (unary_form op) (part x))
+        (λ i. Apply (sym (unary_row op) i) (more (expression_read (part x)) no_more))
+
 -- ---- of a function
 module _ (outer : ModuleNames) (m : Module) (info : ModuleInfo) (es : List ExpressionInfo)
     (t : TypeNames) (spells : SpellsTypes m (expression_context m (types_known es)) t)
@@ -246,9 +337,8 @@ module _ (outer : ModuleNames) (m : Module) (info : ModuleInfo) (es : List Expre
 
 -- ---- of a module
 module _ (outer : ModuleNames) (m : Module) (info : ModuleInfo) (t : TypeNames)
-    (spells : SpellsTypes m (expression_context m (λ h. None)) t)
-    (named : NamesAreRead outer m t)
-    (size : length m.global_expressions ≡ length info.const_expression_types.items) where
+    (spells : SpellsTypes m (told_context m) t)
+    (named : NamesAreRead outer m t) (are : GlobalsAreKnown m info) where
   -- a constant, over what is said of the module's own expressions
   constant_read : (own : ℕ → Bool) (tree_of : ℕ → Option ConstantTree) (part : ℕ → Expression) →
       ((x : ℕ) → own x ≡ true → IsReadAs outer (tree_of x) (part x)) → (c : ℕ) →
@@ -303,47 +393,114 @@ module _ (outer : ModuleNames) (m : Module) (info : ModuleInfo) (t : TypeNames)
           let both = and_parts (own x) (list_all own xs) is in
           (each x both.0, all_read each xs both.1)
 
-      out_of : ((x : ℕ) → own x ≡ true → IsReadAs outer (tree_of x) (part x)) →
-          (e : ir.Expression) → global_has_form_over m own e ≡ true →
-          OutOf outer m (constant_over m tree_of) (global_types_known info) (λ h. None) t spells
-          tree_of part (constant_form_by m part) e
-      out_of each (expression.Literal value) is = is
-      out_of each (expression.Constant handle) is =
-          constant_read own tree_of part each handle is
-      out_of each (expression.Override handle) is = named.overrides handle
-      out_of each (expression.ZeroValue ty) is = declared_of_spellable m (Handle ty) is
-      out_of each (expression.Compose ty components) is =
-          let both = and_parts (is_spellable m (Handle ty)) (list_all own components.items) is in
-          (declared_of_spellable m (Handle ty) both.0, all_read each components.items both.1)
-      out_of each (expression.Splat n value) is = each value is
-      out_of each _ is = absurd cc
-
       known : (e : ir.Expression) → slice_get m.global_expressions h ≡ Some e →
           is_some (global_types_known info h) ≡ true
       known e at =
           let lt = slice_get_within m.global_expressions h e at in
           ap is_some
-          (element info.const_expression_types.items h (subst (λ n. h < n) size lt)).1
+          (element info.const_expression_types.items h (subst (λ n. h < n) are.size lt)).1
+
+      inside : ModuleDeclarations
+      inside = declared_over m (constant_over m tree_of) (global_types_known info)
+
+      a : ExpressionContext
+      a = told_context m
+
+      -- what is asked of an expression that is written out as a constant is
+      out_reads : (e : ir.Expression) → slice_get m.global_expressions h ≡ Some e →
+          OutOf outer m (constant_over m tree_of) (global_types_known info) (told_type m) t spells
+          tree_of part (constant_form_by m part) e →
+          IsReadAs outer (tree_over inside tree_of h e)
+          (constant_form_over a t (constant_form_by m part) part e)
+      out_reads e at out =
+          over_read outer m (constant_over m tree_of) (global_types_known info) (told_type m) t spells
+          tree_of part (constant_form_by m part) h (known e at) e out
+
+      -- so is an operator over what is
+      operator_reads : (e : ir.Expression) → slice_get m.global_expressions h ≡ Some e →
+          operator_has_form m e ≡ true →
+          AllByRecursion (λ x. IsReadAs outer (tree_of x) (part x)) (expression_operands e) →
+          IsReadAs outer (computed_over inside tree_of h e)
+          (global_form_over m t (constant_form_by m part) part e)
+      operator_reads (expression.Unary op x) at is all =
+          unary_read outer m (constant_over m tree_of) (global_types_known info) (told_type m) t
+          spells tree_of part (constant_form_by m part) h (known (expression.Unary op x) at) op x
+          all.0
+      operator_reads (expression.Binary op left right) at is all =
+          binary_read outer m (constant_over m tree_of) (global_types_known info) (told_type m) t
+          spells tree_of part (constant_form_by m part) h
+          (known (expression.Binary op left right) at) op left right all.0 all.1.0
+      operator_reads (expression.Select condition accept reject) at is all =
+          called_read outer m (constant_over m tree_of) (global_types_known info) (told_type m) t
+          spells tree_of part (constant_form_by m part) h
+          (known (expression.Select condition accept reject) at) None Select tt (λ type. refl) refl
+          (reject ∷ accept ∷ condition ∷ []) all
+      operator_reads (expression.Relational fun x) at is all =
+          called_read outer m (constant_over m tree_of) (global_types_known info) (told_type m) t
+          spells tree_of part (constant_form_by m part) h
+          (known (expression.Relational fun x) at) None (Relational fun) tt (λ type. refl) refl
+          (x ∷ []) all
+      operator_reads (expression.Math fun x y z w) at is all =
+          called_read outer m (constant_over m tree_of) (global_types_known info) (told_type m) t
+          spells tree_of part (constant_form_by m part) h
+          (known (expression.Math fun x y z w) at) None (Math fun) tt (λ type. refl) refl
+          (expression_operands (expression.Math fun x y z w)) all
+      operator_reads (expression.As x kind convert) at is all =
+          let e = expression.As x kind convert in
+          let c = told_conversion m x kind convert is in
+          let same : type_known inside.context x ≡ type_known a x =
+          are.told x c.0 c.1 c.2
+          ∙ sym
+          (ap
+          (λ o.
+          option_and_then (λ r. inner_of r m.types) (option_map (λ s. Value (inner.Scalar s)) o))
+          c.1) in
+          subst
+          (λ o.
+          IsReadAs outer (operated inside tree_of h (x ∷ []) (Some (cast a kind convert o)))
+          (global_form_over m t (constant_form_by m part) part e))
+          (sym same)
+          (called_read outer m (constant_over m tree_of) (global_types_known info) (told_type m) t
+          spells tree_of part (constant_form_by m part) h (known e at) (operator_type a t e)
+          (cast a kind convert (type_known a x))
+          (cast_spelled m a t spells kind convert (type_known a x))
+          (cast_called a kind convert (type_known a x))
+          (cast_asks a kind convert (type_known a x)) (x ∷ []) all)
+      operator_reads _ at is all = absurd cc
+
+      own_read : ((x : ℕ) → own x ≡ true → IsReadAs outer (tree_of x) (part x)) →
+          (e : ir.Expression) → slice_get m.global_expressions h ≡ Some e →
+          global_has_form_over m own e ≡ true →
+          IsReadAs outer (computed_over inside tree_of h e)
+          (global_form_over m t (constant_form_by m part) part e)
+      own_read each (expression.Literal value) at is = out_reads (expression.Literal value) at is
+      own_read each (expression.Constant handle) at is =
+          out_reads (expression.Constant handle) at (constant_read own tree_of part each handle is)
+      own_read each (expression.Override handle) at is =
+          out_reads (expression.Override handle) at (named.overrides handle)
+      own_read each (expression.ZeroValue ty) at is =
+          out_reads (expression.ZeroValue ty) at (declared_of_spellable m (Handle ty) is)
+      own_read each (expression.Compose ty components) at is =
+          let both = and_parts (is_spellable m (Handle ty)) (list_all own components.items) is in
+          out_reads (expression.Compose ty components) at
+          (declared_of_spellable m (Handle ty) both.0, all_read each components.items both.1)
+      own_read each (expression.Splat n value) at is =
+          out_reads (expression.Splat n value) at (each value is)
+      own_read each e at is =
+          let asked =
+          and_parts m.computes_constants
+          (operator_has_form m e && list_all own (expression_operands e)) is in
+          let both =
+          and_parts (operator_has_form m e) (list_all own (expression_operands e)) asked.1 in
+          operator_reads e at both.0 (all_read each (expression_operands e) both.1)
 
       by : (o : Option ir.Expression) → slice_get m.global_expressions h ≡ o →
           option_map_or (global_has_form_over m own) o false ≡ true →
           ((x : ℕ) → own x ≡ true → IsReadAs outer (tree_of x) (part x)) →
-          IsReadAs outer
-          (option_and_then
-          (computed_over (declared_over m (constant_over m tree_of) (global_types_known info)) tree_of h) o)
-          (option_map_or
-          (constant_form_over (expression_context m (λ x. None)) t (constant_form_by m part) part) o
-          no_constant_form)
+          IsReadAs outer (option_and_then (computed_over inside tree_of h) o)
+          (option_map_or (global_form_over m t (constant_form_by m part) part) o no_constant_form)
       by None at is each = absurd cc
-      by (Some e) at is each =
-          subst
-          (λ o. IsReadAs outer o
-          (constant_form_over (expression_context m (λ x. None)) t (constant_form_by m part) part e))
-          (sym
-          (computed_as_formed m (declared_over m (constant_over m tree_of) (global_types_known info))
-          tree_of h own e is))
-          (over_read outer m (constant_over m tree_of) (global_types_known info) (λ h. None) t spells
-          tree_of part (constant_form_by m part) h (known e at) e (out_of each e is))
+      by (Some e) at is each = own_read each e at is
 
   -- what is written of the module's own expressions is read as its tree
   pub globals_read : (h : ℕ) → global_has_form m h ≡ true →
@@ -447,7 +604,9 @@ module _ (m : Module) (t : TypeNames)
     (named : (c : ℕ) → c < length m.constants → IsIdentifier (constant_name (module_names m) c))
     (overrides : (h o : ℕ) → slice_get m.global_expressions h ≡ Some (expression.Override o) →
     IsIdentifier (t.override_name o))
-    (formed : (ty : ℕ) → has_type_form m.types (Handle ty) ≡ true → HasFormAt t ty) where
+    (formed : (ty : ℕ) → has_type_form m.types (Handle ty) ≡ true → HasFormAt t ty)
+    (scalars : (s : Scalar) → has_type_form m.types (Value (inner.Scalar s)) ≡ true →
+    (tree : TypeSpecifier) × (inner_tree t (inner.Scalar s) ≡ Some tree) × IsType tree) where
   constant_is_by : (own : ℕ → Bool) (part : ℕ → Expression) →
       ((x : ℕ) → own x ≡ true → IsExpression (part x)) → (c : ℕ) →
       constant_has_form_over m own c ≡ true → IsExpression (constant_form_by m part c)
@@ -486,31 +645,82 @@ module _ (m : Module) (t : TypeNames)
           let both = and_parts (own x) (list_all own xs) is in
           (each x both.0, all_are each xs both.1)
 
-      out_of : ((x : ℕ) → own x ≡ true → IsExpression (part x)) → (e : ir.Expression) →
+      a : ExpressionContext
+      a = told_context m
+
+      out_is : (e : ir.Expression) → IsOutOf a t (constant_form_by m part) part e →
+          IsExpression (constant_form_over a t (constant_form_by m part) part e)
+      out_is e out = over_is a t (constant_form_by m part) part e out
+
+      called_is : (op : Operator) → IsCallee (Named (run_word op)) → (xs : List ℕ) →
+          AllByRecursion (λ x. IsExpression (part x)) xs →
+          IsExpression (Call (Named (run_word op)) (operands (map part xs)))
+      called_is op callee xs all =
+          called_words.expression (Named (run_word op)) (map part xs) callee
+          (parts_are a t (constant_form_by m part) part xs all)
+
+      operator_is : (e : ir.Expression) → operator_has_form m e ≡ true →
+          AllByRecursion (λ x. IsExpression (part x)) (expression_operands e) →
+          IsExpression (global_form_over m t (constant_form_by m part) part e)
+      operator_is (expression.Unary op x) is all = all.0
+      operator_is (expression.Binary op left right) is all = (all.0, all.1.0)
+      operator_is (expression.Select condition accept reject) is all =
+          called_is Select (word_is_called Select refl refl refl)
+          (reject ∷ accept ∷ condition ∷ []) all
+      operator_is (expression.Relational fun x) is all =
+          called_is (Relational fun) (word_is_called (Relational fun) refl refl is) (x ∷ []) all
+      operator_is (expression.Math fun x y z w) is all =
+          called_is (Math fun) (word_is_called (Math fun) refl refl is)
+          (expression_operands (expression.Math fun x y z w)) all
+      operator_is (expression.As x kind convert) is all =
+          let c = told_conversion m x kind convert is in
+          let from = inner.Scalar c.0 in
+          let to = scalars (converted_scalar c.0 kind convert) c.3 in
+          let callee = cast_tree (keeps_bits from convert) to.0 in
+          let known : type_known a x ≡ Some from =
+          ap
+          (λ o.
+          option_and_then (λ r. inner_of r m.types) (option_map (λ s. Value (inner.Scalar s)) o))
+          c.1 in
+          subst (λ n. IsExpression (applied_form n (part x ∷ [])))
+          (sym
+          (typed_notation _ (cast_called a kind convert (type_known a x))
+          (operator_type a t (expression.As x kind convert)) callee
+          (conversion_is a t x kind convert from
+          (inner.Scalar (converted_scalar c.0 kind convert)) to.0 known refl to.1)))
+          (called_words.expression callee (part x ∷ [])
+          (cast_callee (keeps_bits from convert) to.0 to.2) (all.0, tt))
+      operator_is _ is all = absurd cc
+
+      own_is : ((x : ℕ) → own x ≡ true → IsExpression (part x)) → (e : ir.Expression) →
           slice_get m.global_expressions h ≡ Some e → global_has_form_over m own e ≡ true →
-          IsOutOf (expression_context m (λ x. None)) t (constant_form_by m part) part e
-      out_of each (expression.Literal value) at is = literals h value at is
-      out_of each (expression.Constant handle) at is = constant_is_by own part each handle is
-      out_of each (expression.Override handle) at is = overrides h handle at
-      out_of each (expression.ZeroValue ty) at is =
-          formed ty (type_form_of_spellable m (Handle ty) is)
-      out_of each (expression.Compose ty parts) at is =
+          IsExpression (global_form_over m t (constant_form_by m part) part e)
+      own_is each (expression.Literal value) at is = literals h value at is
+      own_is each (expression.Constant handle) at is = constant_is_by own part each handle is
+      own_is each (expression.Override handle) at is = overrides h handle at
+      own_is each (expression.ZeroValue ty) at is =
+          out_is (expression.ZeroValue ty) (formed ty (type_form_of_spellable m (Handle ty) is))
+      own_is each (expression.Compose ty parts) at is =
           let both = and_parts (is_spellable m (Handle ty)) (list_all own parts.items) is in
+          out_is (expression.Compose ty parts)
           (formed ty (type_form_of_spellable m (Handle ty) both.0), all_are each parts.items both.1)
-      out_of each (expression.Splat size value) at is = each value is
-      out_of each _ at is = tt
+      own_is each (expression.Splat size value) at is =
+          out_is (expression.Splat size value) (each value is)
+      own_is each e at is =
+          let asked =
+          and_parts m.computes_constants
+          (operator_has_form m e && list_all own (expression_operands e)) is in
+          let both =
+          and_parts (operator_has_form m e) (list_all own (expression_operands e)) asked.1 in
+          operator_is e both.0 (all_are each (expression_operands e) both.1)
 
       by : (o : Option ir.Expression) → slice_get m.global_expressions h ≡ o →
           option_map_or (global_has_form_over m own) o false ≡ true →
           ((x : ℕ) → own x ≡ true → IsExpression (part x)) →
           IsExpression
-          (option_map_or
-          (constant_form_over (expression_context m (λ x. None)) t (constant_form_by m part) part) o
-          no_constant_form)
+          (option_map_or (global_form_over m t (constant_form_by m part) part) o no_constant_form)
       by None at is each = tt
-      by (Some e) at is each =
-          over_is (expression_context m (λ x. None)) t (constant_form_by m part) part e
-          (out_of each e at is)
+      by (Some e) at is each = own_is each e at is
 
   -- a constant that is written
   pub constant_is : (c : ℕ) → constant_has_form m c ≡ true →

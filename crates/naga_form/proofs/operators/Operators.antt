@@ -157,7 +157,8 @@ cast_text : (bits : Bool) (t : TypeSpecifier) →
 cast_text false t = refl
 cast_text true t = bits_text t
 
-cast_spelled : (m : Module) (a : ExpressionContext) (t : TypeNames) → SpellsTypes m a t → (kind : ScalarKind)
+-- a conversion is spelled by what it is called by
+pub cast_spelled : (m : Module) (a : ExpressionContext) (t : TypeNames) → SpellsTypes m a t → (kind : ScalarKind)
     (convert : Option ℕ) (operand : Option TypeInner) →
     Spells (option_and_then (conversion_tree t kind convert) operand) (cast a kind convert operand)
 cast_spelled m a t spells kind convert None = tt

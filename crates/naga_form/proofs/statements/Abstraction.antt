@@ -8,6 +8,7 @@ use Rattle.std.specs.Option.{option_map, is_some, option_to_list}
 use Rattle.std.proofs.lemmas.Option.{slice_get_within}
 use Rattle.naga_naming.proofs.Refusal.{element}
 use Rattle.naga_info.specs.declared.info.TypeResolution.TheVariants.{Handle, Value}
+use Rattle.naga_form.proofs.operators.ToldScalars.{GlobalsAreKnown}
 use Rattle.naga_form.proofs.operators.Operators.{spelled_as_trees, SpellsTypes, operands_read}
 use Rattle.naga_form.proofs.operators.Operators.{word_called}
 use Rattle.module_semantics.proofs.ExpressionForms.{type_form_of_spellable, has_form_parts}
@@ -15,7 +16,7 @@ use Rattle.module_semantics.specs.Sampling.{offset_has_form}
 use Rattle.module_semantics.specs.WrittenOut.{is_written_out}
 use Rattle.naga_form.proofs.operators.ConstantForms.{IsReadAs, constants_read, names_are_read}
 use Rattle.naga_form.proofs.operators.ConstantForms.{read_out}
-use Rattle.naga_form.specs.ConstantForms.{written_constant_form}
+use Rattle.naga_form.specs.ConstantForms.{told_type, written_constant_form}
 use Rattle.naga_form.proofs.operators.Images.{offset_alone}
 use Rattle.naga_form.specs.Expressions.{value_forms, is_pointer, PlainForm, as_value, own_if}
 use Rattle.naga_form.specs.Expressions.{availability_plain, plain_below, plain_form, value_form}
@@ -521,21 +522,21 @@ written_reads flags named m info g f es size formed W closed written constants =
 -- where this has forms, whether the types that its `let`s may tell are among it or not
 pub reads_where : (told : Bool) (flags : WriterFlags) (named : ℕ → List ℕ) (m : Module) (info : ModuleInfo)
     (g : ℕ) (f : ir_function.Function) (es : List ExpressionInfo) →
-    length m.global_expressions ≡ length info.const_expression_types.items →
+    GlobalsAreKnown m info →
     WrittenHaveForms told m info f es →
     length f.expressions ≡ length es →
     function_read (function_form flags (module_names m) named m info g f es) ≡ form_function
     (function_naming (module_names m) named m info g f es)
-reads_where told flags named m info g f es own_size have size =
+reads_where told flags named m info g f es known have size =
     written_reads flags named m info g f es size
     (locals_have_forms told m info f es have)
     (IsWrittenIn m info f es) (written_are_closed m info f es) have.expressions
     (constants_read (outer_names (module_names m) m) m info (type_names m)
-    (spelled_as_trees m (λ h. None)) (names_are_read m) own_size)
+    (spelled_as_trees m (told_type m)) (names_are_read m) known)
 
 pub function_reads : (flags : WriterFlags) (named : ℕ → List ℕ) (m : Module) (info : ModuleInfo) (g : ℕ)
     (f : ir_function.Function) (es : List ExpressionInfo) →
-    length m.global_expressions ≡ length info.const_expression_types.items →
+    GlobalsAreKnown m info →
     WrittenHaveForms (annotates_types flags) m info f es →
     length f.expressions ≡ length es →
     function_read (function_form flags (module_names m) named m info g f es) ≡ form_function

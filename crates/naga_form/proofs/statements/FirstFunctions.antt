@@ -41,7 +41,8 @@ use Rattle.module_semantics.proofs.SideBySide.{zip_parts}
 use Rattle.naga_form.specs.Functions.{function_form, functions_under}
 use Rattle.naga_form.proofs.statements.Abstraction.{function_reads, reads_where}
 use Rattle.naga_form.proofs.statements.AcceptedFunctions.{accepted_at, functions_known, of_number}
-use Rattle.naga_form.proofs.declarations.AcceptedGroups.{declarations_are, types_are_fit}
+use Rattle.naga_form.proofs.declarations.AcceptedGroups.{types_are_fit}
+use Rattle.naga_form.proofs.operators.ToldScalars.{globals_are_known}
 use Rattle.naga_form.proofs.names.DistinguishedItems.{types_are_distinguished}
 use Rattle.naga_form.proofs.statements.FunctionsFit.{IsLeft, Tells, all_distinguished}
 use Rattle.naga_form.proofs.statements.FunctionsFit.{function_fits, one_more, regular_at}
@@ -219,7 +220,7 @@ module _ (m : Module) (info : ModuleInfo) (accepted : IsTrue (is_accepted m info
       first_read g (suc c) [] ess have sizes = refl
       first_read g (suc c) (f ∷ fs) [] have sizes = refl
       first_read g (suc c) (f ∷ fs) (es ∷ ess) have sizes =
-          λ i. reads_where false flags (named g) m info g f es (declarations_are m info accepted).size
+          λ i. reads_where false flags (named g) m info g f es (globals_are_known m info accepted)
           (have 0 f es (omega arith) refl refl) (sizes 0 f es refl refl) i
           ∷ first_read (g + 1) c fs ess
           (λ i f es lt here known. have (suc i) f es (omega (arith, lt)) here known)
@@ -295,7 +296,7 @@ module _ (m : Module) (info : ModuleInfo) (accepted : IsTrue (is_accepted m info
             (form_at flags named (module_names m) m info 0 (all_functions m) (all_infos info) g f es both.0 both.1)
             ∙ (ap (λ h. Some (function_read (function_form flags (module_names m) (named h) m info h f es))) first
             ∙ ap Some
-            (function_reads flags (named g) m info g f es (declarations_are m info accepted).size
+            (function_reads flags (named g) m info g f es (globals_are_known m info accepted)
             (have f es both.0 both.1) (of_number m info accepted g f es both.0 both.1).size)))
 
         before_text : reverse (take g texts) ≡ between ++ form_functions first_namings

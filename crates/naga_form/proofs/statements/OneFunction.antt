@@ -49,7 +49,7 @@ use Rattle.naga_form.specs.Functions.{function_form, functions_under}
 use Rattle.naga_form.proofs.names.DeclaredNames.{one_vocabulary}
 use Rattle.naga_form.proofs.statements.Abstraction.{function_reads}
 use Rattle.naga_form.proofs.statements.AcceptedFunctions.{accepted_at, functions_known, of_number}
-use Rattle.naga_form.proofs.declarations.AcceptedGroups.{declarations_are}
+use Rattle.naga_form.proofs.operators.ToldScalars.{globals_are_known}
 use Rattle.naga_form.proofs.statements.WrittenLets.{annotations_are}
 use Rattle.naga_form.proofs.names.DeclaredItems.{constants_resolve, initialisers_resolve}
 use Rattle.naga_form.proofs.names.DeclaredItems.{items_resolve}
@@ -121,7 +121,7 @@ module _ (m : Module) (info : ModuleInfo) (flags : WriterFlags) (named : LabelNa
       function_read (function_form flags (module_names m) (named g) m info g f es)
       ≡ form_function (function_naming (module_names m) (named g) m info g f es)
   read_at g have f es at known =
-      function_reads flags (named g) m info g f es (declarations_are m info accepted).size
+      function_reads flags (named g) m info g f es (globals_are_known m info accepted)
       (have f es at known) (of_number m info accepted g f es at known).size
 
   -- ---- bindings

@@ -40,7 +40,7 @@ use Rattle.naga_form.proofs.types.SameValues.{values_by_numbers}
 
 module _ (m : ir_module.Module) where
   -- a scalar has one form wherever it stands
-  scalar_distinguished : (r : TypeResolution) (s : Scalar) → inner_of r m.types ≡ Some (inner.Scalar s) →
+  pub scalar_distinguished : (r : TypeResolution) (s : Scalar) → inner_of r m.types ≡ Some (inner.Scalar s) →
       type_key m.types r ≡ scalar_key s
   unfolding handle_key
   scalar_distinguished (Value it) s is = ap (inner_key m.types) (same_Some _ _ is)

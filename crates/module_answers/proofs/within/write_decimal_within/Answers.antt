@@ -2,7 +2,7 @@ use Rattle.std.proofs.Common.{◌≡◌, ◌∙◌, ◌<◌, ◌≤◌, IfErr, I
 use Rattle.std.proofs.Common.{ap, is_ok, length, string_bytes, subst, sym}
 use Rattle.naga_acceptance.specs.FirstFaults.{IsFirstFault}
 use Rattle.naga_wgsl_out.specs.Within.{unfailed}
-use Rattle.decimal_floats.specs.Decimals.{IsDecimalModule, IsDecimalThroughout, keeping_digits}
+use Rattle.decimal_floats.specs.Decimals.{IsDecimalModule, IsDecimalThroughout, asking_standard}
 use Rattle.module_answers.specs.Wants.{IsDecimalUnlessWanting}
 use Rattle.module_answers.specs.Counts.{IsReady}
 use Rattle.module_answers.specs.Opening.{opening}
@@ -19,7 +19,7 @@ returns-in-Some-clause-accepted c = sym c.write_decimal.ensures.accepted ∙ ap 
 
 pub returns-in-Some-clause-decimal : goal.returns-in-Some-clause-decimal
 returns-in-Some-clause-decimal c =
-    subst (λ r. IfOk r (λ _. IsDecimalModule (keeping_digits c.args.«module».now) c.write_decimal.new.«module»)) c.in-Ok.is
+    subst (λ r. IfOk r (λ _. IsDecimalModule (asking_standard c.args.«module».now) c.write_decimal.new.«module»)) c.in-Ok.is
     c.write_decimal.ensures.decimal
 
 pub returns-in-Some-clause-complete : goal.returns-in-Some-clause-complete
@@ -87,7 +87,7 @@ returns-in-None-clause-unwritten c =
 
 pub returns-in-None-clause-too_long : goal.returns-in-None-clause-too_long
 returns-in-None-clause-too_long c =
-    λ _. subst (λ r. IfOk r (λ _. IsDecimalModule (keeping_digits c.args.«module».now) c.write_decimal.new.«module»)) c.in-Ok.is
+    λ _. subst (λ r. IfOk r (λ _. IsDecimalModule (asking_standard c.args.«module».now) c.write_decimal.new.«module»)) c.in-Ok.is
     c.write_decimal.ensures.decimal
 
 pub returns-in-Err-clause-unwritten : goal.returns-in-Err-clause-unwritten
@@ -111,7 +111,7 @@ returns-in_err-opening-clause-unwritten c =
 pub returns-in_err-opening-clause-too_long : goal.returns-in_err-opening-clause-too_long
 returns-in_err-opening-clause-too_long c =
     passed_on c.from_residual.result c.in_err-opening.field-0.0
-    (λ e. e ≡ unwritten.TooLong → IsDecimalModule (keeping_digits c.args.«module».now) c.args.«module».now)
+    (λ e. e ≡ unwritten.TooLong → IsDecimalModule (asking_standard c.args.«module».now) c.args.«module».now)
     c.from_residual.ensures.1
     (not_too_long c.args.flags c.args.«module».now c.args.info.now c.in_err-opening.field-0.0
     c.in_err-opening.ensures.none)

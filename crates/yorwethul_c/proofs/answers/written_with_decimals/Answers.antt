@@ -7,7 +7,7 @@ use Rattle.module_answers.specs.Within.{IsUnwritten}
 use Rattle.module_answers.specs.WriteOutcomes.{AnswersWriting}
 use Rattle.module_answers.specs.declared.within.NoOutcome.TheVariants as unwritten
 use Rattle.module_semantics.specs.acceptance.Accepted.{is_accepted}
-use Rattle.decimal_floats.specs.Decimals.{IsDecimalModule, keeping_digits}
+use Rattle.decimal_floats.specs.Decimals.{IsDecimalModule, asking_standard}
 use Rattle.yorwethul_c.specs.Answers.{longest_text}
 use Rattle.yorwethul_c.proofs.Told.{not_written, with_decimal_floats, wrote}
 use Rattle.yorwethul_c.proofs.answers.written_with_decimals.Goals as goal
@@ -21,7 +21,7 @@ returns-in-Err c =
     let is = subst
     (λ r. IfErr r (IsUnwritten writer longest_text given m
     c.args.shader.now.info info)) c.in-Err.is c.write_decimal_within.ensures.unwritten in
-    let too_long = subst (λ r. IfErr r (λ e. e ≡ unwritten.TooLong → IsDecimalModule (keeping_digits given) m)) c.in-Err.is
+    let too_long = subst (λ r. IfErr r (λ e. e ≡ unwritten.TooLong → IsDecimalModule (asking_standard given) m)) c.in-Err.is
     c.write_decimal_within.ensures.too_long in
     λ json was_read. not_written json c.args.flags writer c.args.shader.now.holder given m c.args.shader.now.info info _ _ _
     c.requires.known c.writer_flags.ensures was_read
@@ -38,7 +38,7 @@ returns-in-Ok c =
     let accepted =
     subst (λ r. IfOk r (λ _. IsTrue (is_accepted given read))) c.in-Ok.is c.write_decimal_within.ensures.accepted in
     let ready = subst (λ r. IfOk r (λ w. IsReady writer w.answer m read info)) c.in-Ok.is c.write_decimal_within.ensures.counted in
-    let decimal = subst (λ r. IfOk r (λ _. IsDecimalModule (keeping_digits given) m)) c.in-Ok.is
+    let decimal = subst (λ r. IfOk r (λ _. IsDecimalModule (asking_standard given) m)) c.in-Ok.is
     c.write_decimal_within.ensures.decimal in
     let complete =
     subst (λ r. IfOk r (λ w. IsDecimalUnlessWanting w.answer m)) c.in-Ok.is c.write_decimal_within.ensures.complete in

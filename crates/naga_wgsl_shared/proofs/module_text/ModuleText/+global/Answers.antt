@@ -1,5 +1,5 @@
 use Rattle.std.proofs.Common.{[], ◌≤◌, arith, ap, ◌∙◌, subst, sym, true}
-use Rattle.std.specs.Option.{option_map_or}
+use Rattle.std.specs.Option.{option_map, option_map_or}
 use Rattle.module_semantics.specs.ExpressionForms.{global_has_form}
 use Rattle.naga_ir.specs.Operands.{expression_operands}
 use Rattle.naga_words.proofs.Writing.{leaves_as, leaves_last, leaves_more, leaves_start, writes_as}
@@ -9,8 +9,10 @@ use Rattle.naga_wgsl_shared.proofs.ConstantRows.{global_there, in_order, initial
 use Rattle.naga_wgsl_shared.proofs.ConstantRows.{initialiser_has_form, literal_passes, literal_row}
 use Rattle.naga_wgsl_shared.proofs.ConstantRows.{named_constant, no_other_global, override_row}
 use Rattle.naga_wgsl_shared.proofs.ConstantRows.{override_there, unnamed_constant, parts_have_forms}
-use Rattle.naga_wgsl_shared.proofs.ConstantRows.{parts_more, parts_none, parts_start, splat_row}
+use Rattle.naga_wgsl_shared.proofs.ConstantRows.{parts_more, parts_none, parts_start}
 use Rattle.naga_wgsl_shared.proofs.ConstantRows.{zero_passes, zero_row}
+use Rattle.naga_wgsl_shared.proofs.OperatorRows.{conversion_passes, operands_pass, own_called}
+use Rattle.naga_wgsl_shared.proofs.OperatorRows.{own_converted, own_infix, own_prefix}
 use Rattle.naga_wgsl_shared.proofs.RepresentativeRows.{representative_is}
 use Rattle.naga_wgsl_shared.specs.Constants.{global_text, parts_left, parts_text}
 use Rattle.naga_wgsl_shared.proofs.module_text.ModuleText.+global.Goals as goal
@@ -159,11 +161,67 @@ write_representative-returns-in-Compose g t c =
     c.index.ensures c.in-Compose.is formed)
     c.write_made_global-in-Compose.ensures
 
-pub write_representative-returns-in-Splat : goal.write_representative-returns-in-Splat
-write_representative-returns-in-Splat g t c =
+-- ---- operators
+pub write_representative-write_prefix_global-requires :
+    goal.write_representative-write_prefix_global-requires
+write_representative-write_prefix_global-requires g t c κs within =
+    let operand =
+    (operands_pass c.args.self.now.shader.now c.requires.can.of_module c.args.handle
+    c.index.result.now c.index.ensures _ c.in-Unary.is c.requires.has_form).0 in
+    let before = operand.0 in
+    (omega (arith, before, c.decreases), (within, (c.requires.can, operand.1)))
+
+pub write_representative-write_infix_global-requires :
+    goal.write_representative-write_infix_global-requires
+write_representative-write_infix_global-requires g t c κs within =
+    let operands =
+    operands_pass c.args.self.now.shader.now c.requires.can.of_module c.args.handle
+    c.index.result.now c.index.ensures _ c.in-Binary.is c.requires.has_form in
+    let left = operands.0.0 in
+    let right = operands.1.0.0 in (
+      omega (arith, left, right, c.decreases),
+      (within, (c.requires.can, (operands.0.1, operands.1.0.1))),
+    )
+
+pub write_representative-write_converted_global-requires :
+    goal.write_representative-write_converted_global-requires
+write_representative-write_converted_global-requires g t c κs within =
+    let converts =
+    conversion_passes c.args.self.now.shader.now c.requires.can.of_module c.args.handle
+    c.index.result.now c.index.ensures _ _ _ c.in-As.is c.requires.has_form in
+    (omega (arith, c.decreases), (within, (c.requires.can, (c.requires.has_form, converts))))
+
+pub write_representative-returns-in-Unary : goal.write_representative-returns-in-Unary
+write_representative-returns-in-Unary g t c =
     writes_as
-    (splat_row c.args.self.now.shader.now c.requires.can.of_module c.args.handle c.in-Splat.size _ c.index.result.now _
-    c.index.ensures c.in-Splat.is c.vector_str.ensures)
+    (own_prefix c.args.self.now.shader.now c.requires.can.of_module c.args.handle
+    c.index.result.now c.index.ensures _ _ c.in-Unary.is)
+    c.write_prefix_global.ensures
+
+pub write_representative-returns-in-Binary : goal.write_representative-returns-in-Binary
+write_representative-returns-in-Binary g t c =
+    writes_as
+    (own_infix c.args.self.now.shader.now c.requires.can.of_module c.args.handle
+    c.index.result.now c.index.ensures _ _ _ c.in-Binary.is)
+    c.write_infix_global.ensures
+
+pub write_representative-returns-in-As : goal.write_representative-returns-in-As
+write_representative-returns-in-As g t c =
+    let m = c.args.self.now.shader.now in
+    let converts =
+    conversion_passes m c.requires.can.of_module c.args.handle c.index.result.now c.index.ensures
+    _ _ _ c.in-As.is c.requires.has_form in
+    writes_as
+    (own_converted m _ _ _ converts c.requires.can.of_module c.args.handle c.index.result.now
+    c.index.ensures c.in-As.is)
+    c.write_converted_global.ensures
+
+pub write_representative-returns-in-Some : goal.write_representative-returns-in-Some
+write_representative-returns-in-Some g t c =
+    writes_as
+    (own_called c.args.self.now.shader.now c.requires.can.of_module c.args.handle
+    c.index.result.now c.index.ensures c.requires.has_form _
+    (sym c.called_str.ensures ∙ ap (option_map (λ w. w.now)) c.in-Some.is))
     c.write_called_global.ensures
 
 pub write_representative-unreachable-requires : goal.write_representative-unreachable-requires
@@ -177,7 +235,10 @@ write_representative-unreachable-requires g t c =
       overridden = c.in_default.not-Override;
       zero_value = c.in_default.not-ZeroValue;
       composed = c.in_default.not-Compose;
-      splat = c.in_default.not-Splat;
+      sign = c.in_default.not-Unary;
+      between = c.in_default.not-Binary;
+      converted = c.in_default.not-As;
+      called = sym c.called_str.ensures ∙ ap (option_map (λ w. w.now)) c.in-None.is;
     })
 
 pub write_parts-index-requires : goal.write_parts-index-requires

@@ -1,4 +1,4 @@
-use Rattle.std.proofs.Common.{◌+◌, ◌*◌, ℕ, Bool, List}
+use Rattle.std.proofs.Common.{◌+◌, ◌*◌, ℕ, Bool, List, max}
 use Rattle.naga_words.specs.Output.{OutputView, output_view}
 use Rattle.naga_words.proofs.Writing.{Leaves}
 use Rattle.naga_wgsl_shared.proofs.ConstantRows.{ArePartsBelow, initialiser_at}
@@ -15,6 +15,16 @@ decreases-write_made_global g l = 5 * l.handle + 1
 
 abbrev pub decreases-write_called_global : goal.decreases-write_called_global
 decreases-write_called_global g l = 5 * l.handle + 1
+
+abbrev pub decreases-write_converted_global : goal.decreases-write_converted_global
+decreases-write_converted_global g l = 5 * l.handle + 1
+
+-- an operand stands before its expression
+abbrev pub decreases-write_prefix_global : goal.decreases-write_prefix_global
+decreases-write_prefix_global g l = 5 * l.operand + 4
+
+abbrev pub decreases-write_infix_global : goal.decreases-write_infix_global
+decreases-write_infix_global g l = 5 * max l.left l.right + 4
 
 abbrev pub decreases-write_representative : goal.decreases-write_representative
 decreases-write_representative g l = 5 * l.handle + 2
