@@ -106,7 +106,7 @@ module _ (m new : Module)
   abbrev ps : List EntryPoint
   ps = new.entry_points.items
 
-  -- and names may keep their digits, and constants be computed, or not
+  -- and names may keep their digits, constants be computed, and bound structs keep their offsets, or not
   abbrev n : Module
   n = record m {
     global_expressions = es;
@@ -114,6 +114,7 @@ module _ (m new : Module)
     entry_points = new.entry_points;
     keeps_digits = new.keeps_digits;
     computes_constants = new.computes_constants;
+    keeps_bound_offsets = new.keeps_bound_offsets;
   }
 
   function_count : length fs ≡ length m.functions
@@ -449,6 +450,7 @@ decimal_is_accepted old new r info h =
     (λ (k : Module). record k {
       keeps_digits = new.keeps_digits;
       computes_constants = new.computes_constants;
+      keeps_bound_offsets = new.keeps_bound_offsets;
     }) r.rest))
     (all_kept_of old new r.expressions r.functions r.entry_points info h)
 
@@ -464,4 +466,11 @@ pub computing_is_accepted : (m : Module) (computes : Bool) (info : ModuleInfo) �
     is_accepted m info ≡ true → is_accepted (record m { computes_constants = computes }) info ≡ true
 computing_is_accepted m computes info h =
     all_kept_of m (record m { computes_constants = computes }) (same_expressions m.global_expressions)
+    (same_functions m.functions) (same_entry_points m.entry_points.items) info h
+
+-- and whether structs with bindings keep their offsets or not
+pub offsets_are_accepted : (m : Module) (keeps : Bool) (info : ModuleInfo) →
+    is_accepted m info ≡ true → is_accepted (record m { keeps_bound_offsets = keeps }) info ≡ true
+offsets_are_accepted m keeps info h =
+    all_kept_of m (record m { keeps_bound_offsets = keeps }) (same_expressions m.global_expressions)
     (same_functions m.functions) (same_entry_points m.entry_points.items) info h

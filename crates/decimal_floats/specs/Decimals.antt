@@ -53,9 +53,13 @@ keeping_digits m = record m { keeps_digits = true }
 abbrev pub computing_constants : Module → Module
 computing_constants m = record m { computes_constants = true }
 
+-- the module, where structs with bindings keep their offsets
+abbrev pub keeping_bound_offsets : Module → Module
+keeping_bound_offsets m = record m { keeps_bound_offsets = true }
+
 -- the module as it asks for a text that every compiler takes, its floats left out
 abbrev pub asking_standard : Module → Module
-asking_standard m = computing_constants (keeping_digits m)
+asking_standard m = keeping_bound_offsets (computing_constants (keeping_digits m))
 
 -- ---- which literals are still held as their bits: infinities and NaNs, whose bits without the sign
 -- are those of an infinity or more

@@ -36,3 +36,4 @@ pub record IsEmptyModule (m : Module) : Type 0 where
   pub no_diagnostic_filter_leaf : m.diagnostic_filter_leaf ≡ None
   pub naga_names : m.keeps_digits ≡ false
   pub no_computed_constants : m.computes_constants ≡ false
+  pub no_kept_bound_offsets : m.keeps_bound_offsets ≡ false

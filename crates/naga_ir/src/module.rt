@@ -263,6 +263,10 @@ pub struct Module {
     /// names, since each may be asked for alone: the one changes how texts look, the other which
     /// modules have texts.
     pub computes_constants: bool,
+    /// Whether a struct that has bindings on its members keeps their offsets where they can be kept,
+    /// as other structs do: a size stands beside a binding then. Else such offsets count for nothing,
+    /// as they do for what passes between stages. naga has no such field.
+    pub keeps_bound_offsets: bool,
 }
 
 impl Module {
@@ -292,6 +296,7 @@ impl Module {
             diagnostic_filter_leaf: None,
             keeps_digits: false,
             computes_constants: false,
+            keeps_bound_offsets: false,
         }
     }
 }

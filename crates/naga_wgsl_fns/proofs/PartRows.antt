@@ -364,7 +364,7 @@ signed_at m e _ = is_prefix m e
 pub signed_row : (f : FunctionText) (table : List Availability) (handle : ℕ) → CanWrite f →
     IsInText f handle →
     is_signed (as_value (form_at f table handle)) ≡
-    signed_at f.shader.now (slice_get (expressions f) handle) (get_or table handle cell.Absent)
+    signed_at f.known.shader.now (slice_get (expressions f) handle) (get_or table handle cell.Absent)
 signed_row f table handle can within =
     ap (λ form. is_signed (as_value form)) (cell_form f table handle can within.there)
     ∙ by (get_or table handle cell.Absent)
@@ -389,7 +389,7 @@ signed_row f table handle can within =
         (part_unsigned (is_pointer (context f) base) p.part (operand base) _ p.unsigned p.is).0
 
     own : (o : Option ir.Expression) → slice_get (expressions f) handle ≡ o →
-        is_signed (as_value (own_if (naming f) (source f) operand o)) ≡ is_prefix f.shader.now o
+        is_signed (as_value (own_if (naming f) (source f) operand o)) ≡ is_prefix f.known.shader.now o
     own None at = refl
     own (Some e) at = of_expression e at
       where
@@ -427,7 +427,7 @@ signed_row f table handle can within =
         of_expression _ at = refl
 
     whole : is_signed (as_value (own_form f table handle)) ≡
-        is_prefix f.shader.now (slice_get (expressions f) handle)
+        is_prefix f.known.shader.now (slice_get (expressions f) handle)
     whole = own (slice_get (expressions f) handle) refl
 
     by : (c : Availability) →
@@ -435,7 +435,7 @@ signed_row f table handle can within =
         (as_value
         (availability_plain (availability_of (named_in f) (numbered_name handle) c)
         (own_form f table handle))) ≡
-        signed_at f.shader.now (slice_get (expressions f) handle) c
+        signed_at f.known.shader.now (slice_get (expressions f) handle) c
     by (cell.Bound name) = refl
     by cell.Absent = whole
     by cell.Barred = whole
@@ -449,19 +449,19 @@ module _ (f : FunctionText) (table : List Availability) (handle : ℕ) (can : Ca
       false ≡ is_signed (as_value (form_at f table handle))
   signed_named name is =
       sym (signed_row f table handle can within
-      ∙ ap (signed_at f.shader.now (slice_get (expressions f) handle)) (sym at ∙ is))
+      ∙ ap (signed_at f.known.shader.now (slice_get (expressions f) handle)) (sym at ∙ is))
 
   pub signed_unnamed : ((name : BoundName) → c ≡ cell.Bound name → ⊥) → (e : ir.Expression) →
       slice_get (expressions f) handle ≡ Some e →
-      is_prefix f.shader.now (Some e) ≡ is_signed (as_value (form_at f table handle))
+      is_prefix f.known.shader.now (Some e) ≡ is_signed (as_value (form_at f table handle))
   signed_unnamed not_named e here =
       sym (signed_row f table handle can within
-      ∙ (ap (signed_at f.shader.now (slice_get (expressions f) handle)) (sym at)
-      ∙ (by c not_named ∙ ap (is_prefix f.shader.now) here)))
+      ∙ (ap (signed_at f.known.shader.now (slice_get (expressions f) handle)) (sym at)
+      ∙ (by c not_named ∙ ap (is_prefix f.known.shader.now) here)))
     where
       by : (c : Availability) → ((name : BoundName) → c ≡ cell.Bound name → ⊥) →
-          signed_at f.shader.now (slice_get (expressions f) handle) c ≡
-          is_prefix f.shader.now (slice_get (expressions f) handle)
+          signed_at f.known.shader.now (slice_get (expressions f) handle) c ≡
+          is_prefix f.known.shader.now (slice_get (expressions f) handle)
       by (cell.Bound name) not_named = absurd (not_named name refl)
       by cell.Absent not_named = refl
       by cell.Barred not_named = refl

@@ -188,6 +188,7 @@ module_of r types f =
       diagnostic_filter_leaf = None;
       keeps_digits = false;
       computes_constants = false;
+      keeps_bound_offsets = false;
     }
 
 -- an expression is used so often, and has the type with this handle

@@ -92,8 +92,8 @@ abbrev pub deepest_nesting : ℕ
 deepest_nesting = 4000
 
 -- Of the flags in yorwethul.h the two lowest bits are the writer's own. The next one asks that names
--- keep their digits, operators in constants are written and the floats of a module are made decimal
--- before it is written; else it is written as it is given.
+-- keep their digits, operators in constants are written, structs with bindings keep their offsets and
+-- the floats of a module are made decimal before it is written; else it is written as it is given.
 abbrev pub IsAsAsked : (are_decimal : Bool) → (given m : Module) → Type 0
 IsAsAsked true given m = IsDecimalModule (asking_standard given) m
 IsAsAsked false given m = m ≡ given
