@@ -21,7 +21,7 @@ use Rattle.naga_json.specs.declared.expressions.ExpressionName.{ExpressionName}
 use Rattle.naga_ir.specs.declared.expression.ImageQuery.{ImageQuery}
 use Rattle.naga_json.specs.declared.expressions.ImageQueryName.{ImageQueryName}
 use Rattle.naga_ir.specs.declared.expression.Literal.{Literal}
-use Rattle.naga_json.specs.declared.expressions.LiteralName.{LiteralName}
+use Rattle.naga_json.specs.declared.literals.LiteralName.{LiteralName}
 use Rattle.naga_ir.specs.declared.expression.SampleLevel.{SampleLevel}
 use Rattle.naga_json.specs.declared.expressions.SampleLevelName.{SampleLevelName}
 use Rattle.naga_ir.specs.declared.expression.SwizzleComponent.{SwizzleComponent}

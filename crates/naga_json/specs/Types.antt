@@ -16,7 +16,7 @@ use Rattle.naga_json.specs.declared.types.ArraySizeName.{ArraySizeName}
 use Rattle.naga_ir.specs.declared.types.CooperativeRole.{CooperativeRole}
 use Rattle.naga_ir.specs.declared.types.CooperativeSize.{CooperativeSize}
 use Rattle.naga_ir.specs.declared.image.ImageClass.{ImageClass}
-use Rattle.naga_json.specs.declared.types.ImageClassName.{ImageClassName}
+use Rattle.naga_json.specs.declared.images.ImageClassName.{ImageClassName}
 use Rattle.naga_ir.specs.declared.image.ImageDimension.{ImageDimension}
 use Rattle.naga_ir.specs.declared.types.PredeclaredType.{PredeclaredType}
 use Rattle.naga_json.specs.declared.types.PredeclaredTypeName.{PredeclaredTypeName}
