@@ -10,8 +10,6 @@ use Rattle.naga_ir.specs.declared.module.EntryPoint.{EntryPoint}
 use Rattle.naga_ir.specs.declared.module.Function.{Function}
 use Rattle.naga_ir.specs.declared.module.Module.{Module}
 use Rattle.naga_ir.specs.declared.module.SpecialTypes.{SpecialTypes}
-use Rattle.naga_ir.specs.Literals.{literal_scalar}
-use Rattle.naga_ir.specs.declared.expression.Literal.{Literal}
 use Rattle.naga_ir.specs.declared.types.Scalar.{Scalar}
 use Rattle.naga_ir.specs.declared.types.TypeInner.{TypeInner}
 use Rattle.naga_ir.specs.declared.types.Type_.{Type_}
@@ -52,6 +50,8 @@ module_empty m h =
       h.no_diagnostic_filters,
       h.no_diagnostic_filter_leaf,
       h.naga_names,
+      h.no_computed_constants,
+      h.no_kept_bound_offsets,
     ) refl
 
 -- ---- lists
@@ -98,19 +98,12 @@ type_put m ts t ty e f g =
       place_seen type_eq.eq-value.it same_type seen_type type_seen t m.types,
     ) refl
 
--- a type of a scalar, without a name
-abbrev plain_type : Scalar → Type_
-plain_type s = record { name = None; inner = TypeInner.Scalar s }
-
-pub literal_put : (m : Module) (ts : List Type_) (x : Literal) (s : Scalar) (ty e : ℕ) → s ≡ literal_scalar x →
-    ts ≡ insert_key type_eq.eq-value.it m.types (plain_type s) →
-    ty ≡ position_or_len (type_eq.eq-value.it (plain_type s)) m.types →
-    added_override (seen_module (record m { types = ts })) ty e ≡ typed_override (seen_module m) x e
-literal_put m ts x s ty e is f g =
-    type_put m ts (plain_type s) ty e f g
-    ∙ ap (λ r. added_override
-    (record (seen_module m) { types = insert_key same_type (map seen_type m.types) (seen_type (plain_type r)) })
-    (position_or_len (same_type (seen_type (plain_type r))) (map seen_type m.types)) e) is
+-- the type of a scalar, without a name
+pub scalar_put : (m : Module) (ts : List Type_) (s : Scalar) (ty e : ℕ) →
+    ts ≡ insert_key type_eq.eq-value.it m.types (record { name = None; inner = TypeInner.Scalar s }) →
+    ty ≡ position_or_len (type_eq.eq-value.it (record { name = None; inner = TypeInner.Scalar s })) m.types →
+    added_override (seen_module (record m { types = ts })) ty e ≡ typed_override (seen_module m) s e
+scalar_put m ts s ty e f g = type_put m ts (record { name = None; inner = TypeInner.Scalar s }) ty e f g
 
 -- ---- the sizes of an entry point
 

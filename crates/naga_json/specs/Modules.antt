@@ -2,7 +2,7 @@
 -- of a module with what is known of it (docs/JSON.md).
 --
 -- Throughout, m is what contracts see of a module, and e the index of one of its own expressions.
-use Rattle.std.specs.Prelude.{ℕ, ◌+◌, List, [], ◌∷◌, ◌++◌, map, Bool, true, false, not, ◌&&◌}
+use Rattle.std.specs.Prelude.{ℕ, zero, suc, ◌+◌, ◌==◌, List, [], ◌∷◌, ◌++◌, map, Bool, true, false, not, ◌&&◌}
 use Rattle.std.specs.Prelude.{if◌then◌else◌, length, slice_get, slice_set, codes, Option, Some, None}
 use Rattle.std.specs.Option.{is_some, option_map, option_map_or}
 use Rattle.std.specs.List.{position_or_len}
@@ -17,7 +17,7 @@ use Rattle.naga_json.specs.Functions.{SeenEntryPoint, SeenFunction, entry_point_
 use Rattle.naga_json.specs.Functions.{seen_entry_point, seen_function, sizes_said}
 use Rattle.naga_json.specs.Infos.{module_info_said}
 use Rattle.naga_json.specs.LetBe.{of_module}
-use Rattle.naga_json.specs.Seen.{SeenConstant, SeenExpression, SeenFilters, SeenGlobal}
+use Rattle.naga_json.specs.Seen.{SeenConstant, SeenExpression, SeenFilters, SeenGlobal, SeenInner}
 use Rattle.naga_json.specs.Seen.{SeenModuleInfo, filters_of}
 use Rattle.naga_json.specs.Seen.{SeenOverride, SeenType, composition}
 use Rattle.naga_json.specs.Seen.{plain_expression, plain_inner}
@@ -30,8 +30,9 @@ use Rattle.naga_json.specs.declared.modules.Given.{Given}
 use Rattle.naga_json.specs.declared.modules.Known.{Known}
 use Rattle.naga_ir.specs.Literals.{literal_scalar}
 use Rattle.naga_ir.specs.declared.expression.Expression.{Expression}
-use Rattle.naga_ir.specs.declared.expression.Literal.{Literal}
 use Rattle.naga_ir.specs.declared.module.Module.{Module}
+use Rattle.naga_ir.specs.declared.types.Scalar.{Scalar}
+use Rattle.naga_ir.specs.declared.types.ScalarKind.{ScalarKind}
 use Rattle.naga_ir.specs.declared.types.TypeInner.{TypeInner}
 
 -- what contracts see of a module
@@ -46,6 +47,8 @@ pub record SeenModule : Type 0 where
   pub entry_points : List SeenEntryPoint
   pub filters : SeenFilters
   pub keeps_digits : Bool
+  pub computes_constants : Bool
+  pub keeps_bound_offsets : Bool
 
 abbrev pub seen_module : Module → SeenModule
 seen_module m = record {
@@ -59,6 +62,8 @@ seen_module m = record {
   entry_points = map seen_entry_point m.entry_points.items;
   filters = filters_of m;
   keeps_digits = m.keeps_digits;
+  computes_constants = m.computes_constants;
+  keeps_bound_offsets = m.keeps_bound_offsets;
 }
 
 abbrev pub no_filters : SeenFilters
@@ -76,6 +81,8 @@ no_module = record {
   entry_points = [];
   filters = no_filters;
   keeps_digits = false;
+  computes_constants = false;
+  keeps_bound_offsets = false;
 }
 
 -- all but the overrides of the sizes of workgroups and the filters of diagnostics
@@ -100,13 +107,63 @@ module_members j = do
     entry_points = entry_points;
     filters = no_filters;
     keeps_digits = false;
+    computes_constants = false;
+    keeps_bound_offsets = false;
   })
+
+-- ---- the scalars of the module's own expressions
+-- They are told as far as the sizes of workgroups ask for them: by literals, by the types of constants, overrides and
+-- zero values, and by operators over these. Where that is another type than the expression has, the module is not
+-- accepted with an override of it.
+
+abbrev pub scalar_alone : SeenInner → Option Scalar
+scalar_alone (plain_inner (TypeInner.Scalar s)) = Some s
+scalar_alone _ = None
+
+abbrev pub scalar_at : SeenModule → (ty : ℕ) → Option Scalar
+scalar_at m ty = slice_get m.types ty >>= λ t. scalar_alone t.inner
+
+-- how wide a conversion makes a scalar: one that keeps the bits is told of 32
+abbrev pub told_width : Option ℕ → ℕ
+told_width (Some width) = width
+told_width None = 4
+
+-- what is told without operands
+abbrev pub scalar_by : SeenModule → Expression → Option Scalar
+scalar_by m (Expression.Literal x) = Some (literal_scalar x)
+scalar_by m (Expression.Constant c) = slice_get m.constants c >>= λ c. scalar_at m c.ty
+scalar_by m (Expression.Override o) = slice_get m.overrides o >>= λ o. scalar_at m o.ty
+scalar_by m (Expression.ZeroValue ty) = scalar_at m ty
+scalar_by m (Expression.As operand kind width) = Some (record { kind = kind; width = told_width width })
+scalar_by m _ = None
+
+-- the operand of whose type an operator is
+abbrev pub typed_as : Expression → Option ℕ
+typed_as (Expression.Unary op operand) = Some operand
+typed_as (Expression.Binary op left right) = Some left
+typed_as (Expression.Select condition accept reject) = Some accept
+typed_as (Expression.Math fun arg arg1 arg2 arg3) = Some arg
+typed_as _ = None
+
+-- the scalar of an expression, over at most so many operands in one another
+abbrev pub scalar_seen : (g : ℕ → Option Scalar) → SeenModule → SeenExpression → Option Scalar
+scalar_seen g m (plain_expression x) =
+    option_map_or g (typed_as x) (scalar_by m x)
+scalar_seen g m (composition ty components) = None
+
+pub scalar_within : (levels : ℕ) → SeenModule → (e : ℕ) → Option Scalar
+scalar_within zero m e = None
+scalar_within (suc levels) m e =
+    slice_get m.global_expressions e >>= λ x. scalar_seen (scalar_within levels m) m x
+
+abbrev pub scalar_of : SeenModule → (e : ℕ) → Option Scalar
+scalar_of m e = scalar_within (length m.global_expressions) m e
 
 -- ---- the overrides of the sizes of workgroups
 
--- the type of a literal, without a name
-abbrev pub literal_type : Literal → SeenType
-literal_type x = record { name = None; inner = plain_inner (TypeInner.Scalar (literal_scalar x)) }
+-- the type of a scalar, without a name
+abbrev pub scalar_type : Scalar → SeenType
+scalar_type s = record { name = None; inner = plain_inner (TypeInner.Scalar s) }
 
 -- an override without a name and of this type, after all others, that the expression initialises
 abbrev pub added_override : SeenModule → (ty e : ℕ) → ℕ × SeenModule
@@ -122,31 +179,37 @@ abbrev pub constant_override : SeenModule → (constant e : ℕ) → Option (ℕ
 constant_override m constant e =
     slice_get m.constants constant >>= λ c. Some (added_override m c.ty e)
 
--- the same of a literal's type, which the module has from then on
-abbrev pub typed_override : SeenModule → Literal → (e : ℕ) → ℕ × SeenModule
-typed_override m x e =
-    added_override (record m { types = insert_key same_type m.types (literal_type x) })
-    (position_or_len (same_type (literal_type x)) m.types) e
+-- the same of the type of a scalar, which the module has from then on
+abbrev pub typed_override : SeenModule → Scalar → (e : ℕ) → ℕ × SeenModule
+typed_override m s e =
+    added_override (record m { types = insert_key same_type m.types (scalar_type s) })
+    (position_or_len (same_type (scalar_type s)) m.types) e
 
 -- of integers of 32 bits alone
-abbrev pub literal_override : SeenModule → Literal → (e : ℕ) → Option (ℕ × SeenModule)
-literal_override m (Literal.U32 n) e = Some (typed_override m (Literal.U32 n) e)
-literal_override m (Literal.I32 n) e = Some (typed_override m (Literal.I32 n) e)
-literal_override m x e = None
+abbrev pub is_integer : ScalarKind → Bool
+is_integer ScalarKind.Sint = true
+is_integer ScalarKind.Uint = true
+is_integer _ = false
+
+abbrev pub is_size : Scalar → Bool
+is_size s = is_integer s.kind && s.width == 4
+
+abbrev pub scalar_override : SeenModule → Option Scalar → (e : ℕ) → Option (ℕ × SeenModule)
+scalar_override m None e = None
+scalar_override m (Some s) e = if is_size s then Some (typed_override m s e) else None
 
 abbrev pub override_by : SeenModule → (e : ℕ) → Expression → Option (ℕ × SeenModule)
 override_by m e (Expression.Override found) = Some (found, m)
 override_by m e (Expression.Constant constant) = constant_override m constant e
-override_by m e (Expression.Literal x) = literal_override m x e
-override_by m e x = None
+override_by m e x = scalar_override m (scalar_of m e) e
 
 -- a composition sets no size
 abbrev pub override_seen : SeenModule → (e : ℕ) → SeenExpression → Option (ℕ × SeenModule)
 override_seen m e (plain_expression x) = override_by m e x
 override_seen m e (composition ty components) = None
 
--- The override that an expression is, or that a constant or a literal becomes, and the module then. No other
--- expression sets a size.
+-- The override that an expression is, or that it becomes, and the module then. An expression that is no integer of 32
+-- bits, as far as its scalar is told, sets no size.
 abbrev pub override_of : SeenModule → (e : ℕ) → Option (ℕ × SeenModule)
 override_of m e = slice_get m.global_expressions e >>= λ x. override_seen m e x
 

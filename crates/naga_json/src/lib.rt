@@ -24,8 +24,9 @@
 //! - `named_expressions` is an object, read in the order of its members' numbers.
 //! - `predeclared_types`, whose keys are no texts, is a list of pairs `[key, handle]`.
 //! - `workgroup_size_overrides` is null or a list of three, each null or one of the module's own
-//!   expressions. One that is an override is that override. A constant, or a literal `u32` or `i32`, is
-//!   the initialiser of an override without a name, after all others. Any other is refused.
+//!   expressions. One that is an override is that override. Any other whose type is told, by itself or
+//!   its first operand, as `u32` or `i32`, is the initialiser of an override without a name, after all
+//!   others. The rest is refused.
 //!
 //! What is known of a function may be given short, by the list of its expressions' types, and a
 //! type by its handle alone. Each `ref_count` is 0 then.
@@ -54,6 +55,7 @@ mod let_be;
 mod literals;
 mod modules;
 mod operators;
+mod scalars;
 mod shape;
 mod sizes;
 mod statements;

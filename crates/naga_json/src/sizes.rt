@@ -6,17 +6,20 @@ ghost use Rattle.json.specs.Value.{value_view};
 ghost use Rattle.naga_json.specs.Diagnostics.{list_at};
 ghost use Rattle.naga_json.specs.Functions.{size_list_said, sizes_said};
 ghost use Rattle.naga_json.specs.Modules.{added_override, axis_sized};
-ghost use Rattle.naga_json.specs.Modules.{constant_override, literal_override, override_of};
-ghost use Rattle.naga_json.specs.Modules.{point_sized, seen_module, sized_by, typed_override};
-ghost use Rattle.naga_json.specs.Modules.{with_sizes};
+ghost use Rattle.naga_json.specs.Modules.{constant_override, is_size, override_of};
+ghost use Rattle.naga_json.specs.Modules.{point_sized, scalar_override, seen_module, sized_by};
+ghost use Rattle.naga_json.specs.Modules.{typed_override, with_sizes};
 ghost use Rattle.naga_json.specs.Numbers.{index_said};
 ghost use Rattle.naga_json.specs.Said.{Gives, option_said, tuple_said};
 
 use crate::diagnostics::list_at;
 use crate::error::{Problem, ReadError};
+use crate::scalars::scalar_of;
 use crate::shape::{FromJson, in_item, in_member, item_of, items_of};
 use json::Value;
-use naga_ir::{Constant, Expression, Handle, Literal, Module, Override, Type_, TypeInner};
+use naga_ir::{
+    Constant, Expression, Handle, Module, Override, Scalar, ScalarKind, Type_, TypeInner,
+};
 use std::alloc::Global;
 
 /// The member that an entry point has for them.
@@ -137,7 +140,8 @@ fn size_override(
     Ok(Some(in_member(alloc, MEMBER, in_item(alloc, axis, found))?))
 }
 
-/// An override that has the expression's value: the one that the expression is, or a new one.
+/// An override that has the expression's value: the one that the expression is, or a new one, of the
+/// type of the constant that it is, or of the scalar that is told of it.
 fn override_of(
     alloc: Global,
     expression: Handle<Expression>,
@@ -152,8 +156,11 @@ fn override_of(
     match module.global_expressions[expression] {
         Expression::Override(found) => Ok(found),
         Expression::Constant(constant) => constant_override(alloc, constant, expression, module),
-        Expression::Literal(literal) => literal_override(alloc, literal, expression, module),
-        _ => Err(ReadError::at(alloc, Problem::Unsupported)),
+        Expression::Compose { .. } => Err(ReadError::at(alloc, Problem::Unsupported)),
+        _ => {
+            let scalar = scalar_of(module, expression);
+            scalar_override(alloc, scalar, expression, module)
+        }
     }
 }
 
@@ -174,35 +181,42 @@ fn constant_override(
     added_override(expression, ty, module)
 }
 
-/// A new override of the type of this literal, which the expression is: an integer of 32 bits. The
+/// A new override of the type of this scalar, which the expression has: an integer of 32 bits. The
 /// module has that type from then on.
-fn literal_override(
+fn scalar_override(
     alloc: Global,
-    literal: Literal,
+    scalar: Option<Scalar>,
     expression: Handle<Expression>,
     module: &mut Module,
 ) -> Result<Handle<Override>, ReadError>
     ensures { Gives (λ o. (o, seen_module «module».new))
-        (literal_override (seen_module «module».old) literal expression) result }
+        (scalar_override (seen_module «module».old) scalar expression) result }
 {
-    match literal {
-        Literal::U32(_) | Literal::I32(_) => typed_override(literal, expression, module),
+    match scalar {
+        Some(scalar) if is_size(scalar) => typed_override(scalar, expression, module),
         _ => Err(ReadError::at(alloc, Problem::Unsupported)),
     }
 }
 
-/// The same of any literal.
+/// Whether a workgroup may have so many invocations along an axis as a value of this type says.
+fn is_size(scalar: Scalar) -> bool
+    ensures { result ≡ is_size scalar }
+{
+    matches!(scalar.kind, ScalarKind::Sint | ScalarKind::Uint) && scalar.width == 4
+}
+
+/// The same of any scalar.
 fn typed_override(
-    literal: Literal,
+    scalar: Scalar,
     expression: Handle<Expression>,
     module: &mut Module,
 ) -> Result<Handle<Override>, ReadError>
     ensures { Gives (λ o. (o, seen_module «module».new))
-        (Some (typed_override (seen_module «module».old) literal expression)) result }
+        (Some (typed_override (seen_module «module».old) scalar expression)) result }
 {
     let ty = module.types.insert(Type_ {
         name: None,
-        inner: TypeInner::Scalar(literal.scalar()),
+        inner: TypeInner::Scalar(scalar),
     })?;
     added_override(expression, ty, module)
 }
