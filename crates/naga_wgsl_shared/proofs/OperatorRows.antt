@@ -1,4 +1,5 @@
 -- The texts of operators among a module's own expressions, from what is written of them in turn.
+-- Serves 6 contracts, `write_bits` among them.
 --
 -- Throughout, m is a module, h the handle of one of its own expressions e, op an operator, x that of
 -- an operand (xs are several), word a word, and kind and convert are those of a conversion.

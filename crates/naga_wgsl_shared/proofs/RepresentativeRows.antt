@@ -1,6 +1,6 @@
 -- A module's own expression is written by another where it names constants without names; it is a
 -- sign before its operand where that is.
--- Serves `global`.
+-- Serves `global` and `is_signed_global`.
 --
 -- Throughout, m is a module, representatives tell by which each of its own expressions is written, h is one of
 -- these, and e what stands there.
