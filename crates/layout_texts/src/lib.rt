@@ -2,12 +2,17 @@
 //! struct has no layout. Names are the caller's, so that it needs no writer.
 #![tactic(auto)]
 
+mod lost;
+
 ghost use Rattle.std.specs.Prelude.{IsTrue};
 ghost use Rattle.module_semantics.specs.acceptance.Ranges.{parts_stand_before};
 ghost use Rattle.naga_naming.specs.Keys.{names_in};
 ghost use Rattle.naga_spelling.specs.Contexts.{names_context};
 ghost use Rattle.naga_spelling.specs.Spelling.{IsInOrder};
 
+pub use lost::{has_bound_buffer, lost_layouts};
+
+use crate::lost::{bindings_in, loses_layout};
 use naga_ir::{Handle, Module, SpecialTypes, StructMember, Type_, TypeInner, UniqueArena};
 use naga_layout::{TypeLayout, type_layout};
 use naga_naming::NameKey;
@@ -18,8 +23,8 @@ use std::collections::HashMap;
 use std::fmt;
 use std::fmt::Display;
 
-/// The structs that a text declares, each with a line for each member, and the variables whose arrays
-/// don't keep their strides, under these names.
+/// The structs that a text declares, each with a line for each member, the variables whose arrays
+/// don't keep their strides, and the buffers that [`lost_layouts`] tells, under these names.
 pub fn layouts_under(
     alloc: Global,
     module: &Module,
@@ -30,6 +35,7 @@ pub fn layouts_under(
     let mut text = String::new(alloc);
     push_structs(alloc, module, names, &mut text)?;
     push_variables(alloc, module, names, &mut text)?;
+    push_lost(alloc, module, names, &mut text)?;
     Ok(text)
 }
 
@@ -71,6 +77,30 @@ fn push_variables(
                 ty: ty.as_str(),
                 stride,
                 wgsl,
+            };
+            push_line(alloc, line, text)?;
+        }
+    }
+    Ok(())
+}
+
+/// A line for each buffer that holds a struct with bindings and is not laid out as in the module.
+fn push_lost(
+    alloc: Global,
+    module: &Module,
+    names: &HashMap<NameKey, String>,
+    text: &mut String,
+) -> Result<(), AllocError>
+    requires ordered { IsTrue (parts_stand_before «module».now.types) }
+{
+    let spelling = types_in_order(&module.types, module.overrides.len());
+    let marks = bindings_in(alloc, &module.types)?;
+    for (handle, variable) in module.global_variables.iter() {
+        if loses_layout(&module.types, &marks, variable) {
+            let ty = type_text(alloc, module, names, spelling, variable.ty)?;
+            let line = LostLine {
+                name: name_in(names, &NameKey::GlobalVariable(handle)),
+                ty: ty.as_str(),
             };
             push_line(alloc, line, text)?;
         }
@@ -145,6 +175,7 @@ fn push_struct(
         let line = MemberLine {
             name: name_in(names, &NameKey::StructMember(handle, number)),
             ty: ty.as_str(),
+            is_bound: member.binding.is_some(),
             offset: member.offset,
             found,
             fault: fault_of(before, member.offset, found),
@@ -179,8 +210,6 @@ fn name_in<'a>(names: &'a HashMap<NameKey, String>, key: &NameKey) -> &'a str {
 /// What is known of a member's type.
 #[derive(Clone, Copy)]
 enum Found {
-    /// The member has a binding, so that its offset counts for nothing.
-    HasBinding,
     /// The type has this layout.
     Laid(TypeLayout),
     /// The type is an array of this stride, or has one in it, where WGSL has the other stride.
@@ -192,9 +221,6 @@ enum Found {
 fn found_of(types: &UniqueArena<Type_>, member: &StructMember) -> Found
     requires ordered { IsTrue (parts_stand_before types.now) }
 {
-    if member.binding.is_some() {
-        return Found::HasBinding;
-    }
     if let Some(layout) = layout_of(types, member.ty) {
         return Found::Laid(layout);
     }
@@ -399,9 +425,22 @@ impl fmt::Display for VariableLine<'_> {
 }
 
 #[derive(Clone, Copy)]
+struct LostLine<'a> {
+    name: &'a str,
+    ty: &'a str,
+}
+
+impl fmt::Display for LostLine<'_> {
+    fn fmt<W: fmt::Write>(&self, f: &mut fmt::Formatter<W>) -> fmt::Result {
+        write!(f, "{}: {}, not laid out as in the module", self.name, self.ty)
+    }
+}
+
+#[derive(Clone, Copy)]
 struct MemberLine<'a> {
     name: &'a str,
     ty: &'a str,
+    is_bound: bool,
     offset: u32,
     found: Found,
     fault: Option<&'static str>,
@@ -411,12 +450,11 @@ struct MemberLine<'a> {
 impl fmt::Display for MemberLine<'_> {
     fn fmt<W: fmt::Write>(&self, f: &mut fmt::Formatter<W>) -> fmt::Result {
         write!(f, "    {}: {}, ", self.name, self.ty)?;
-        if let Found::HasBinding = self.found {
-            return f.write_str("has a binding");
+        if self.is_bound {
+            f.write_str("has a binding, ")?;
         }
         write!(f, "offset {}", self.offset)?;
         match self.found {
-            Found::HasBinding => Ok(()),
             Found::Laid(layout) => write!(
                 f,
                 ", {}{}",

@@ -1,15 +1,18 @@
-//! Where the members of a module's structs stand.
+//! Where the members of a module's structs stand, and which buffers a text lays out otherwise.
 
 ghost use Rattle.std.specs.Prelude.{IfErr, IsTrue};
 ghost use Rattle.module_semantics.specs.acceptance.Accepted.{is_accepted};
 ghost use Rattle.naga_wgsl_out.specs.ModuleRefusals.{IsNamesRefusal};
 
-use layout_texts::layouts_under;
+use layout_texts::{has_bound_buffer, layouts_under, lost_layouts};
+use naga_acceptance::unaccepted;
 use naga_info::ModuleInfo;
-use naga_ir::Module;
+use naga_ir::{GlobalVariable, Handle, Module};
+use naga_naming::NameKey;
 use naga_wgsl_out::wgsl::names_of;
 use naga_wgsl_shared::Error;
-use std::alloc::Global;
+use std::alloc::{AllocError, Global};
+use std::collections::HashMap;
 
 /// The structs that a text declares, each with a line for each member, and the variables whose arrays
 /// don't keep their strides, under the names that a text of this module has. Where that text is a standard
@@ -23,4 +26,41 @@ pub fn layout_table(alloc: Global, module: &Module, info: &ModuleInfo) -> Result
     let (names, _namer) = names_of(alloc, module)?;
     let text = layouts_under(alloc, module, &names)?;
     Ok(text)
+}
+
+/// The buffers that the module's text lays out otherwise than the module does, though it is written
+/// ([`lost_layouts`]): their names in the text, in the order of the variables. There are none where
+/// no buffer holds a struct with bindings, and none of a module that is not accepted.
+///
+/// Where the text is a standard one, let [`name_as_standard`](crate::name_as_standard) see the
+/// module first. The error is one of those of [`names_of`].
+#[tactic(auto, using(module_semantics::proofs::Layouts::accepted_in_order))]
+pub fn lost_buffers(
+    alloc: Global,
+    module: &Module,
+    info: &ModuleInfo,
+) -> Result<Vec<String>, Error> {
+    let mut buffers = Vec::new(alloc);
+    if has_bound_buffer(alloc, module)? && unaccepted(module, info).is_none() {
+        let lost = lost_layouts(alloc, module)?;
+        if !lost.is_empty() {
+            let (names, _namer) = names_of(alloc, module)?;
+            for handle in &lost {
+                buffers.push(name_in(alloc, &names, *handle)?)?;
+            }
+        }
+    }
+    Ok(buffers)
+}
+
+/// The name of a variable.
+fn name_in(
+    alloc: Global,
+    names: &HashMap<NameKey, String>,
+    handle: Handle<GlobalVariable>,
+) -> Result<String, AllocError> {
+    match names.get(&NameKey::GlobalVariable(handle)) {
+        Some(name) => name.clone(),
+        None => Ok(String::new(alloc)),
+    }
 }

@@ -4,10 +4,10 @@
 -- types, ms are the members of a struct, ks are these as the module places them, k is one, i a number, a
 -- an alignment and span how many bytes the module gives to the struct.
 use Rattle.std.proofs.Common.{◌≡◌, ◌∙◌, ℕ, zero, suc, Bool, true, false, List, [], ◌∷◌, Option, Some, None}
-use Rattle.std.proofs.Common.{ap, refl, slice_get, sym}
-use Rattle.std.specs.Prelude.{IsTrue, if◌then◌else◌, unwrap_or}
-use Rattle.std.specs.Option.{is_none, is_some, option_and_then, option_map, option_map_or}
-use Rattle.std.proofs.lemmas.Bool.{false≢true}
+use Rattle.std.proofs.Common.{ap, ap₂, refl, slice_get, sym}
+use Rattle.std.specs.Prelude.{◌&&◌, ◌||◌, IsTrue, if◌then◌else◌, not, unwrap_or}
+use Rattle.std.specs.Option.{is_some, option_and_then, option_map, option_map_or}
+use Rattle.std.proofs.lemmas.Bool.{and_parts, false≢true}
 use Rattle.naga_ir.specs.declared.module.Module.{Module}
 use Rattle.naga_ir.specs.declared.types.StructMember.{StructMember}
 use Rattle.naga_ir.specs.declared.types.Type_.{Type_}
@@ -15,6 +15,7 @@ use Rattle.naga_ir.specs.declared.types.TypeInner.{TypeInner}
 use Rattle.naga_ir.specs.declared.types.TypeInner.TheVariants as inner
 use Rattle.naga_layout.proofs.Left.{all_aligned, members_aligned}
 use Rattle.naga_layout.proofs.Levels.{layout_is}
+use Rattle.naga_layout.specs.Bindings.{have_bindings}
 use Rattle.naga_layout.specs.Types.{StandInOrder, kept_members, kept_struct, named_layout_by}
 use Rattle.naga_layout.specs.Types.{placed_member, placed_members}
 use Rattle.naga_naming.specs.Reset.{members_of}
@@ -29,7 +30,8 @@ use Rattle.wgsl_layout.specs.declared.layouts.Layout.{Layout}
 use Rattle.wgsl_layout.specs.declared.layouts.Placed.{Placed}
 use Rattle.wgsl_layout.specs.declared.members.Misplaced.TheVariants.{OffAlignment, Overlapping}
 use Rattle.module_semantics.specs.DeclarationForms.{DeclarationsHaveForms}
-use Rattle.module_semantics.specs.Layouts.{concerned_members, concerned_of, concerned_only, layout_in, module_rule}
+use Rattle.module_semantics.specs.Layouts.{are_to_keep, concerned_members, concerned_of, concerned_only}
+use Rattle.module_semantics.specs.Layouts.{layout_in, module_rule}
 use Rattle.module_semantics.specs.Layouts.{size_among, span_at, span_of, written_size}
 use Rattle.module_semantics.specs.Undeclared.{is_declared}
 
@@ -57,14 +59,12 @@ placed l k = record { layout = l; offset = k.offset }
 
 some_placed : (f : ℕ → Option Layout) (k : StructMember) (p : Placed) → placed_member f k ≡ Some p →
     (l : Layout) × (f k.ty ≡ Some l) × (p ≡ placed l k)
-some_placed f k p is = by (is_none k.binding) (f k.ty) refl is
+some_placed f k p is = by (f k.ty) refl is
   where
-    by : (free : Bool) (o : Option Layout) → f k.ty ≡ o →
-        (if free then option_map (λ l. placed l k) o else None) ≡ Some p →
+    by : (o : Option Layout) → f k.ty ≡ o → option_map (λ l. placed l k) o ≡ Some p →
         (l : Layout) × (f k.ty ≡ Some l) × (p ≡ placed l k)
-    by false o has is = absurd cc
-    by true None has is = absurd cc
-    by true (Some l) has is = (l, has, ap (λ o. unwrap_or o p) (sym is))
+    by None has is = absurd cc
+    by (Some l) has is = (l, has, ap (λ o. unwrap_or o p) (sym is))
 
 -- what is known of members that all have places
 module _ (f : ℕ → Option Layout) where
@@ -135,34 +135,41 @@ module _ (m : Module) (h : ℕ) (t : Type_) (at : slice_get m.types h ≡ Some t
   pub span_is : span_at m h ≡ span
   span_is = ap (λ o. option_map_or (λ t. span_of t.inner) o 0) at
 
-  concerned_is : concerned_members m h ≡ option_and_then concerned_only (placed_members (layout_in m) ms)
+  abbrev bindings : Bool
+  bindings = have_bindings m.types ms
+
+  concerned_is : concerned_members m h ≡ option_and_then (concerned_only bindings) (placed_members (layout_in m) ms)
   concerned_is =
       ap (option_and_then (λ t. concerned_of m h t.inner)) at
-      ∙ ap (λ b. if b then option_and_then concerned_only (placed_members (layout_in m) ms) else None) declared
+      ∙ ap (λ b. if b then option_and_then (concerned_only bindings) (placed_members (layout_in m) ms)
+      else None) declared
 
   -- a struct that is concerned
   pub record Concerned (ks : List Placed) : Type 0 where
     pub placed : placed_members (layout_in m) ms ≡ Some ks
     pub concerned : is_concerned ks ≡ true
+    pub can : (are_kept None ks || not bindings) ≡ true
 
   pub concerned_so : (ks : List Placed) → concerned_members m h ≡ Some ks → Concerned ks
   concerned_so ks is = by (placed_members (layout_in m) ms) refl (sym concerned_is ∙ is)
     where
       by : (o : Option (List Placed)) → placed_members (layout_in m) ms ≡ o →
-          option_and_then concerned_only o ≡ Some ks → Concerned ks
+          option_and_then (concerned_only bindings) o ≡ Some ks → Concerned ks
       by None has is = absurd cc
-      by (Some ps) has is = test (is_concerned ps) refl is
+      by (Some ps) has is = test (are_to_keep bindings ps) refl is
         where
-          test : (b : Bool) → is_concerned ps ≡ b → (if b then Some ps else None) ≡ Some ks → Concerned ks
+          test : (b : Bool) → are_to_keep bindings ps ≡ b → (if b then Some ps else None) ≡ Some ks → Concerned ks
           test false concerns is = absurd cc
           test true concerns is =
               let same : ps ≡ ks = ap (λ o. unwrap_or o ks) is in
-              record { placed = has ∙ is; concerned = ap is_concerned (sym same) ∙ concerns }
+              let parts = and_parts (is_concerned ks) (are_kept None ks || not bindings)
+              (ap (are_to_keep bindings) (sym same) ∙ concerns) in
+              record { placed = has ∙ is; concerned = parts.0; can = parts.1 }
 
   so_concerned : (ks : List Placed) → Concerned ks → concerned_members m h ≡ Some ks
   so_concerned ks c =
-      concerned_is ∙ (ap (option_and_then concerned_only) c.placed
-      ∙ ap (λ b. if b then Some ks else None) c.concerned)
+      concerned_is ∙ (ap (option_and_then (concerned_only bindings)) c.placed
+      ∙ ap₂ (λ a b. if a && b then Some ks else None) c.concerned c.can)
 
   module _ (order : StandInOrder m.types) where
     laid_is : layout_in m h ≡ kept_struct (layout_in m) ms span
@@ -201,7 +208,11 @@ module _ (m : Module) (h : ℕ) (t : Type_) (at : slice_get m.types h ≡ Some t
             test [] has true keeps laid = absurd cc
             test (k ∷ more) has true keeps laid = record {
               members = k ∷ more;
-              concerned = so_concerned (k ∷ more) (record { placed = has; concerned = kept_concerned k more keeps });
+              concerned = so_concerned (k ∷ more) (record {
+                placed = has;
+                concerned = kept_concerned k more keeps;
+                can = ap (λ b. b || not bindings) keeps;
+              });
               placed = has;
               alignment = ap (λ o. option_map_or (λ l. l.alignment) o 0) (sym is ∙ struct_is k more has keeps);
             }

@@ -1,16 +1,18 @@
 -- How the structs of a module stand in memory: which of them keep the offsets of their members,
 -- what is written so that they do, why a struct can't, and when a text keeps them.
 --
--- A struct is concerned if a text declares it, it has members, each of these has a layout and no
--- binding, none but the first is at 0, and all but the last have a size. Any other struct is
--- written without sizes and has no layout, so that a struct with such a member isn't concerned
--- either. One that is concerned has a layout where its members can be left where they are; else
--- it is refused.
+-- A struct is concerned if a text declares it, it has members, each of these has a layout, none but
+-- the first is at 0, and all but the last have a size. It has to have a layout, too, if a member
+-- has a binding, or a struct in it has such a member: what passes between stages has offsets that
+-- nobody reads. Any other struct is written without sizes and has no layout, so that a struct with
+-- such a member isn't concerned either. One that is concerned has a layout where its members can be
+-- left where they are; else it is refused.
 --
 -- Throughout, m is a module, h the handle of one of its types, it that type by itself, i the number
--- of a member, ks are the members of a struct as the module places them, span is how many bytes the
--- module gives to a struct, and structs are those of a text.
-use Rattle.std.specs.Prelude.{◌≡◌, ℕ, List, map, not, false, Option, Some, None}
+-- of a member, ks are the members of a struct as the module places them, bindings says whether one
+-- of these has a binding or a struct in it with such a member, span is how many bytes the module
+-- gives to a struct, and structs are those of a text.
+use Rattle.std.specs.Prelude.{◌≡◌, ◌&&◌, ◌||◌, ℕ, Bool, List, map, not, false, Option, Some, None}
 use Rattle.std.specs.Prelude.{IsTrue, IsFalse, if◌then◌else◌, slice_get}
 use Rattle.std.specs.Option.{option_and_then, option_map_or}
 use Rattle.naga_ir.specs.declared.module.Module.{Module}
@@ -18,11 +20,12 @@ use Rattle.naga_ir.specs.declared.types.StructMember.{StructMember}
 use Rattle.naga_ir.specs.declared.types.Type_.{Type_}
 use Rattle.naga_ir.specs.declared.types.TypeInner.{TypeInner}
 use Rattle.naga_ir.specs.declared.types.TypeInner.TheVariants as inner
+use Rattle.naga_layout.specs.Bindings.{have_bindings}
 use Rattle.naga_layout.specs.Types.{Rule, arrays_are_kept, layout_at, placed_members, user_rule}
 use Rattle.naga_naming.specs.Reset.{members_of}
 use Rattle.naga_naming.specs.declared.key.NameKey.TheVariants as key
 use Rattle.wgsl_layout.specs.Faults.{StandsAmong}
-use Rattle.wgsl_layout.specs.Members.{has_room_for_all, is_concerned, written_members}
+use Rattle.wgsl_layout.specs.Members.{are_kept, has_room_for_all, is_concerned, written_members}
 use Rattle.wgsl_layout.specs.declared.layouts.Layout.{Layout}
 use Rattle.wgsl_layout.specs.declared.layouts.Placed.{Placed}
 use Rattle.wgsl_layout.specs.declared.members.Misplaced.{Misplaced}
@@ -41,14 +44,19 @@ abbrev pub layout_in : Module → (h : ℕ) → Option Layout
 layout_in m h = layout_at (module_rule m) m.types h
 
 -- ---- structs that are concerned
-abbrev pub concerned_only : List Placed → Option (List Placed)
-concerned_only ks = if is_concerned ks then Some ks else None
+-- the members are to keep their offsets: those with bindings, where all of them can
+abbrev pub are_to_keep : (bindings : Bool) → List Placed → Bool
+are_to_keep bindings ks = is_concerned ks && (are_kept None ks || not bindings)
+
+abbrev pub concerned_only : (bindings : Bool) → List Placed → Option (List Placed)
+concerned_only bindings ks = if are_to_keep bindings ks then Some ks else None
 
 -- the members of a struct that is concerned, as the module places them
 abbrev pub concerned_of : Module → (h : ℕ) → TypeInner → Option (List Placed)
 concerned_of m h it =
     if is_declared m.special_types h it
-    then option_and_then concerned_only (placed_members (layout_in m) (members_of it)) else None
+    then option_and_then (concerned_only (have_bindings m.types (members_of it)))
+    (placed_members (layout_in m) (members_of it)) else None
 
 abbrev pub concerned_members : Module → (h : ℕ) → Option (List Placed)
 concerned_members m h = option_and_then (λ t. concerned_of m h t.inner) (slice_get m.types h)
@@ -77,13 +85,14 @@ pub record IsMisplaced (m : Module) (h : ℕ) (fault : Misplaced) : Type 0 where
   pub concerned : concerned_members m h ≡ Some members
   pub stands : StandsAmong fault members
 
--- it is concerned, and has a member of this type, which is an array of another stride than WGSL
--- gives it, or has such an array in it, through arrays alone
+-- It is concerned and has no bindings, and a member has this type, which is an array of another
+-- stride than WGSL gives it, or has such an array in it, through arrays alone.
 pub record HasOtherStride (m : Module) (h ty : ℕ) : Type 0 where
   pub members : List Placed
   pub concerned : concerned_members m h ≡ Some members
   pub whole : Type_
   pub at : slice_get m.types h ≡ Some whole
+  pub free : IsFalse (have_bindings m.types (members_of whole.inner))
   pub number : ℕ
   pub member : StructMember
   pub there : slice_get (members_of whole.inner) number ≡ Some member

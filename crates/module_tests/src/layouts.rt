@@ -101,7 +101,7 @@ const LAYOUTS: &[(&str, Option<(u32, Option<u32>)>)] = &[
     ("atomic64", Some((8, Some(8)))),
     ("atomic16", None),
     ("pending", None),
-    ("bound", None),
+    ("bound", Some((4, Some(4)))),
     ("pointer", None),
 ];
 

@@ -16,6 +16,7 @@ use Rattle.naga_ir.specs.declared.types.TypeInner.{TypeInner}
 use Rattle.naga_ir.specs.declared.types.TypeInner.TheVariants as inner
 use Rattle.naga_ir.specs.declared.types.VectorSize.TheVariants as vector
 use Rattle.wgsl_layout.specs.declared.layouts.Layout.{Layout}
+use Rattle.naga_layout.specs.Bindings.{has_bindings}
 use Rattle.naga_layout.specs.Types.{told}
 use Rattle.naga_layout.specs.Types.{Rule, arrays_are_kept, inner_layout_by, layout_at, user_rule}
 
@@ -118,7 +119,11 @@ module _ (v : Vec StructMember Global) where
       inner.Struct (one (with_location 1 0)) 4 ∷
       inner.Struct (two (member 12 0) (member 1 16)) 20 ∷
       array 1 1073741823 4 ∷
-      array 8 1 32 ∷ [])
+      array 8 1 32 ∷
+      inner.Struct (two (with_location 1 0) (with_location 1 16)) 20 ∷
+      array 19 1 20 ∷
+      inner.Struct (two (member 1 0) (member 20 12)) 52 ∷
+      inner.Struct (two (with_location 1 0) (with_location 1 0)) 4 ∷ [])
 
   abbrev told_at : (h : ℕ) → Option Layout
   told_at h = layout_at user_rule types h
@@ -173,14 +178,27 @@ module _ (v : Vec StructMember Global) where
   unfolding layout_at
   tail = refl
 
-  -- as long as an override says, a member with a binding, and one without a size before another
+  -- members with bindings are laid out as others are, and may be at one offset, so that none is
+  with_binding : told_at 15 ≡ bytes 4 4
+  unfolding layout_at
+  with_binding = refl
+
+  with_bindings : told_at 19 ≡ bytes 4 20
+  unfolding layout_at
+  with_bindings = refl
+
+  bound_inside : told_at 21 ≡ bytes 4 52
+  unfolding layout_at
+  bound_inside = refl
+
+  bound_at_one : told_at 22 ≡ None
+  unfolding layout_at
+  bound_at_one = refl
+
+  -- as long as an override says, and one without a size before another
   pending : told_at 14 ≡ None
   unfolding layout_at
   pending = refl
-
-  with_binding : told_at 15 ≡ None
-  unfolding layout_at
-  with_binding = refl
 
   endless_first : told_at 16 ≡ None
   unfolding layout_at
@@ -232,3 +250,17 @@ module _ (v : Vec StructMember Global) where
   unknown_stride : arrays_are_kept text_rule types 8 ≡ true
   unfolding arrays_are_kept layout_at
   unknown_stride = refl
+
+  -- ---- bindings
+  -- those of a struct, through its arrays and the structs in it
+  own_bindings : has_bindings types 19 ≡ true
+  unfolding has_bindings
+  own_bindings = refl
+
+  bindings_inside : has_bindings types 21 ≡ true
+  unfolding has_bindings
+  bindings_inside = refl
+
+  no_bindings : has_bindings types 13 ≡ false
+  unfolding has_bindings
+  no_bindings = refl

@@ -37,7 +37,7 @@ one_told marks types i xs ys x size told is all = (
         ∙ (is ∙ ap (λ h. option_map capped (layout_at (written_rule marks) types h)) same)
 
 -- what is not there has no layout
-no_layout_past : (rule : Rule) (types : List Type_) (h : ℕ) → length types ≤ h → layout_at rule types h ≡ None
+pub no_layout_past : (rule : Rule) (types : List Type_) (h : ℕ) → length types ≤ h → layout_at rule types h ≡ None
 unfolding layout_at
 no_layout_past rule types h le =
     ap (option_and_then (λ t. named_layout_by rule (layout_within h rule types) h t.inner)) (slice_get_past types h le)

@@ -5,7 +5,7 @@
 use Rattle.std.proofs.Common.{◌≡◌, ◌∙◌, ◌*◌, ℕ, zero, suc, Bool, true, false, List, [], ◌∷◌, Option, Some, None}
 use Rattle.std.proofs.Common.{◌+◌, ap, arith, drop, length, max, refl, slice_get, subst, sym}
 use Rattle.std.specs.Prelude.{◌&&◌, ◌==◌, ⊤, if◌then◌else◌, unwrap_or}
-use Rattle.std.specs.Option.{is_none, option_and_then, option_map, option_map_or, IfSome}
+use Rattle.std.specs.Option.{option_and_then, option_map, option_map_or, IfSome}
 use Rattle.naga_ir.specs.declared.types.Scalar.{Scalar}
 use Rattle.naga_ir.specs.declared.types.StructMember.{StructMember}
 use Rattle.naga_ir.specs.declared.types.Type_.{Type_}
@@ -86,14 +86,13 @@ AlignsAll f = (h : ℕ) → IsAlignedIf (f h)
 
 module _ (f : ℕ → Option Layout) (aligns : AlignsAll f) where
   member_fits : (k : StructMember) → IfSome (placed_member f k) (λ p. IsAlignment p.layout.alignment)
-  member_fits k = by (is_none k.binding) (f k.ty) (aligns k.ty)
+  member_fits k = by (f k.ty) (aligns k.ty)
     where
-      by : (b : Bool) (o : Option Layout) → IsAlignedIf o →
-          IfSome {T = Placed} (if b then option_map (λ l. record { layout = l; offset = k.offset }) o else None)
+      by : (o : Option Layout) → IsAlignedIf o →
+          IfSome {T = Placed} (option_map (λ l. record { layout = l; offset = k.offset }) o)
           (λ p. IsAlignment p.layout.alignment)
-      by false o is = tt
-      by true None is = tt
-      by true (Some l) is = is
+      by None is = tt
+      by (Some l) is = is
 
   members_fit : (ks : List StructMember) → IfSome (placed_members f ks) AllAligned
   members_fit [] = tt

@@ -6,7 +6,7 @@ use Rattle.std.proofs.Common.{◌≡◌, ◌<◌, ◌∙◌, ℕ, zero, suc, Boo
 use Rattle.std.proofs.Common.{◌∷◌, Option, Some, None, ap, arith, refl, slice_get}
 use Rattle.std.specs.Prelude.{IsTrue, if◌then◌else◌, nat_lt}
 use Rattle.std.specs.List.{list_all}
-use Rattle.std.specs.Option.{is_none, option_and_then, option_map}
+use Rattle.std.specs.Option.{option_and_then, option_map}
 use Rattle.std.proofs.lemmas.Bool.{and_parts, ltb-true}
 use Rattle.naga_ir.specs.declared.types.StructMember.{StructMember}
 use Rattle.naga_ir.specs.declared.types.Type_.{Type_}
@@ -22,8 +22,7 @@ use Rattle.naga_layout.specs.Types.{user_rule}
 module _ (f g : ℕ → Option Layout) (n : ℕ) (same : (h : ℕ) → h < n → f h ≡ g h) where
   same_member : (k : StructMember) → nat_lt k.ty n ≡ true → placed_member f k ≡ placed_member g k
   same_member k before =
-      ap (λ o. if is_none k.binding then option_map (λ l. record { layout = l; offset = k.offset }) o else None)
-      (same k.ty (ltb-true k.ty n before))
+      ap (option_map (λ l. record { layout = l; offset = k.offset })) (same k.ty (ltb-true k.ty n before))
 
   pub same_members : (ks : List StructMember) → list_all (λ k. nat_lt k.ty n) ks ≡ true →
       placed_members f ks ≡ placed_members g ks

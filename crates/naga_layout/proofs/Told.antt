@@ -6,7 +6,7 @@
 use Rattle.std.proofs.Common.{◌≡◌, ◌∙◌, ℕ, zero, suc, Bool, true, false, List, [], ◌∷◌, Option}
 use Rattle.std.proofs.Common.{Some, None, ap, refl, slice_get, sym}
 use Rattle.std.specs.Prelude.{◌==◌, if◌then◌else◌}
-use Rattle.std.specs.Option.{is_none, option_and_then, option_map, option_map_or}
+use Rattle.std.specs.Option.{option_and_then, option_map, option_map_or}
 use Rattle.std.proofs.lemmas.Option.{same_Some}
 use Rattle.naga_ir.specs.declared.types.StructMember.{StructMember}
 use Rattle.naga_ir.specs.declared.types.Type_.{Type_}
@@ -29,18 +29,17 @@ module _ (f g : ℕ → Option Layout)
     (same : (h : ℕ) (x y : Layout) → f h ≡ Some x → g h ≡ Some y → x ≡ y) where
   same_member : (k : StructMember) (x y : Placed) → placed_member f k ≡ Some x →
       placed_member g k ≡ Some y → x ≡ y
-  same_member k x y is also = by (is_none k.binding) (f k.ty) (g k.ty) refl refl is also
+  same_member k x y is also = by (f k.ty) (g k.ty) refl refl is also
     where
-      by : (b : Bool) (o p : Option Layout) → f k.ty ≡ o → g k.ty ≡ p →
-          (if b then option_map (λ l. record { layout = l; offset = k.offset }) o else None) ≡ Some x →
-          (if b then option_map (λ l. record { layout = l; offset = k.offset }) p else None) ≡ Some y → x ≡ y
-      by true (Some l) (Some n) u v is also =
+      by : (o p : Option Layout) → f k.ty ≡ o → g k.ty ≡ p →
+          option_map (λ l. record { layout = l; offset = k.offset }) o ≡ Some x →
+          option_map (λ l. record { layout = l; offset = k.offset }) p ≡ Some y → x ≡ y
+      by (Some l) (Some n) u v is also =
           sym (same_Some (record { layout = l; offset = k.offset }) x is)
           ∙ (ap (λ l. record { layout = l; offset = k.offset }) (same k.ty l n u v)
           ∙ same_Some (record { layout = n; offset = k.offset }) y also)
-      by true (Some l) None u v is also = absurd cc
-      by true None p u v is also = absurd cc
-      by false o p u v is also = absurd cc
+      by (Some l) None u v is also = absurd cc
+      by None p u v is also = absurd cc
 
   same_members : (ks : List StructMember) (xs ys : List Placed) → placed_members f ks ≡ Some xs →
       placed_members g ks ≡ Some ys → xs ≡ ys

@@ -12,7 +12,7 @@ use Rattle.std.specs.Prelude.{List, [], ◌∷◌, IsTrue, Option, Some, None, i
 use Rattle.std.specs.Prelude.{slice_get}
 use Rattle.std.specs.Int.NonZero.{non_zero_u32_get}
 use Rattle.std.specs.List.{list_all}
-use Rattle.std.specs.Option.{is_none, option_and_then, option_map, option_map_or}
+use Rattle.std.specs.Option.{option_and_then, option_map, option_map_or}
 use Rattle.naga_ir.specs.declared.types.ArraySize.{ArraySize}
 use Rattle.naga_ir.specs.declared.types.ArraySize.TheVariants as size
 use Rattle.naga_ir.specs.declared.types.Scalar.{Scalar}
@@ -68,11 +68,10 @@ told_length (size.Pending override_handle) = None
 told_length size.Dynamic = Some None
 
 -- ---- structs
--- a member with its type's layout, where that is laid out and the member has no binding
+-- A member with its type's layout, where that is laid out. A binding changes nothing: WGSL's rules
+-- ask for sizes and alignments alone.
 abbrev pub placed_member : (f : ℕ → Option Layout) → StructMember → Option Placed
-placed_member f k =
-    if is_none k.binding then option_map (λ l. record { layout = l; offset = k.offset }) (f k.ty)
-    else None
+placed_member f k = option_map (λ l. record { layout = l; offset = k.offset }) (f k.ty)
 
 -- all members, if each is such a one
 abbrev pub placed_members : (f : ℕ → Option Layout) → List StructMember → Option (List Placed)

@@ -222,7 +222,7 @@ fn array_of(
 }
 
 /// How a struct of these members is laid out, to which the module gives so many bytes: if each has
-/// a layout, is bound to nothing and can stay where it is.
+/// a layout and can stay where it is.
 pub fn kept_struct(
     types: &UniqueArena<Type_>,
     undeclared: &[bool],
@@ -264,9 +264,6 @@ fn member_of(
         (layout_at (written_rule undeclared.now) types.now) member.now) }
     ensures aligned { IfSome result (λ k. IsAlignment k.layout.alignment) }
 {
-    if member.binding.is_some() {
-        return None;
-    }
     match cell_of(types, undeclared, cells, member.ty) {
         Some(layout) => Some(Placed {
             layout,

@@ -41,9 +41,8 @@ pub struct TypeLayout {
 ///   and the like, and what has such a part;
 /// - an override gives the length of an array, or an array's elements have no size;
 /// - an array's elements begin at another distance in the module than WGSL has them begin;
-/// - a struct has no members, one with a binding, or one that can't stay where it is: the first not
-///   at 0, another at 0, one off its alignment, before the end of the one before it, or after one
-///   that has no size.
+/// - a struct has no members, or one that can't stay where it is: the first not at 0, another at 0,
+///   one off its alignment, before the end of the one before it, or after one that has no size.
 ///
 /// The size of a struct is its span in the module, where that is a multiple of the alignment and
 /// has room for the last member, and the one that WGSL's rules give it otherwise.
@@ -392,7 +391,7 @@ fn remembered_struct(
     }
 }
 
-/// A member with its type's layout, if that is laid out and the member has no binding.
+/// A member with its type's layout, if that is laid out.
 #[cycle(layouts)]
 fn remembered_member(
     types: &UniqueArena<Type_>,
@@ -409,9 +408,6 @@ fn remembered_member(
         (placed_member (layout_at user_rule types.now) member.now) }
     ensures aligned { IfSome result (λ k. IsAlignment k.layout.alignment) }
 {
-    if member.binding.is_some() {
-        return None;
-    }
     match remembered_layout(types, member.ty, seen) {
         Some(layout) => Some(Placed {
             layout,

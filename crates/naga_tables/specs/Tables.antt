@@ -22,6 +22,7 @@ use Rattle.naga_ir.specs.declared.module.Module.{Module}
 use Rattle.naga_ir.specs.declared.module.SpecialTypes.{SpecialTypes}
 use Rattle.naga_ir.specs.declared.types.TypeInner.{TypeInner}
 use Rattle.naga_ir.specs.declared.types.TypeInner.TheVariants as inner
+use Rattle.naga_layout.specs.Bindings.{TellBindings}
 use Rattle.naga_layout.specs.Tables.{cell_at, mark_at}
 use Rattle.naga_layout.specs.Types.{arrays_are_kept}
 use Rattle.naga_refusals.specs.declared.construct.Construct.{Construct}
@@ -35,8 +36,9 @@ use Rattle.naga_tables.specs.Refusals.{global_refusal}
 
 -- The tables, with a cell for each of the module's own expressions or for each type: by what
 -- expressions are refused, and by which they are written; which structs no text declares, which
--- types name one, which are spelled, how each is laid out, and whether the arrays that each is
--- made of have the stride that WGSL gives them.
+-- types name one, which are spelled, how each is laid out, whether the arrays that each is made of
+-- have the stride that WGSL gives them, and which have a struct in them of which a member has a
+-- binding.
 pub record Tables : Type 0 where
   pub global_refusals : List (Option Construct)
   pub representatives : List ℕ
@@ -45,6 +47,7 @@ pub record Tables : Type 0 where
   pub type_forms : List Bool
   pub layouts : List (Option Layout)
   pub strides : List Bool
+  pub bindings : List Bool
 
 -- ---- types
 -- the structs that no text declares
@@ -166,3 +169,4 @@ pub record AreTablesOf (m : Module) (t : Tables) : Type 0 where
   pub type_forms : MarksTypeForms m t.type_forms
   pub layouts : TellsLayouts m t.layouts
   pub strides : TellsStrides m t.strides
+  pub bindings : TellBindings m.types t.bindings

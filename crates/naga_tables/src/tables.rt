@@ -10,6 +10,7 @@ ghost use Rattle.module_semantics.specs.Undeclared.{handle_names_undeclared, is_
 ghost use Rattle.module_semantics.specs.Undeclared.{is_undeclared, names_undeclared};
 ghost use Rattle.naga_info.specs.declared.info.TypeResolution.TheVariants.{Handle as OfHandle};
 ghost use Rattle.naga_ir.specs.Operands.{expression_operands};
+ghost use Rattle.naga_layout.specs.Bindings.{TellBindings, have_bindings};
 ghost use Rattle.naga_layout.specs.Tables.{cell_at, mark_at};
 ghost use Rattle.naga_layout.specs.Types.{arrays_are_kept, kept_struct, placed_members};
 ghost use Rattle.naga_tables.specs.Marks.{MarksAlso, is_marked};
@@ -37,7 +38,7 @@ use naga_info::TypeResolution;
 use naga_ir::{
     Constant, Expression, Handle, ItemIndex, Module, SpecialTypes, StructMember, Type_, TypeInner,
 };
-use naga_layout::{kept_struct, layouts_of, strides_of};
+use naga_layout::{bindings_of, have_bindings, kept_struct, layouts_of, strides_of};
 use naga_refusals::Construct;
 use std::alloc::{AllocError, Global};
 use std::marker::Model;
@@ -45,9 +46,9 @@ use wgsl_layout::{Layout, Misplaced};
 
 /// What is asked of a module again and again while its text is decided and written: by what its
 /// own expressions are refused, and by which others they are written; which structs no text
-/// declares, which types name one, and which types have a form; how types are laid out, and
-/// whether arrays have the stride that WGSL gives them. Each is looked up in one step, where the
-/// module itself would be searched.
+/// declares, which types name one, and which types have a form; how types are laid out, whether
+/// arrays have the stride that WGSL gives them, and which types have a struct in them of which a
+/// member has a binding. Each is looked up in one step, where the module itself would be searched.
 #[derive(Debug, Drop)]
 pub struct ModuleTables {
     global_refusals: Vec<Option<Construct>>,
@@ -57,6 +58,7 @@ pub struct ModuleTables {
     type_forms: Vec<bool>,
     layouts: Vec<Option<Layout>>,
     strides: Vec<bool>,
+    bindings: Vec<bool>,
 }
 
 /// Contracts see them as lists, of one cell for each own expression or for each type.
@@ -73,13 +75,14 @@ impl Model for ModuleTables {
       type_forms = t.type_forms.items;
       layouts = t.layouts.items;
       strides = t.strides.items;
+      bindings = t.bindings.items;
     } };
 }
 
 impl ModuleTables {
-    /// Those of a module, in one pass over the structs that WGSL's own functions give, four over
-    /// its types, of which one goes through the members of structs too, and two over its own
-    /// expressions. It takes memory for five tables of a cell for each type and two of one for each
+    /// Those of a module, in one pass over the structs that WGSL's own functions give, five over
+    /// its types, of which two go through the members of structs too, and two over its own
+    /// expressions. It takes memory for six tables of a cell for each type and two of one for each
     /// expression, and none where there is none. What items are made of stands before them, and the
     /// structs that no text declares are there, as it is in a module that is accepted.
     pub fn of(alloc: Global, module: &Module) -> Result<ModuleTables, AllocError>
@@ -93,6 +96,7 @@ impl ModuleTables {
         let representatives = representatives_of(alloc, module)?;
         let layouts = layouts(alloc, module, &undeclared)?;
         let strides = strides(alloc, module, &undeclared, &layouts)?;
+        let bindings = bindings(alloc, module)?;
         Ok(ModuleTables {
             global_refusals,
             representatives,
@@ -101,6 +105,7 @@ impl ModuleTables {
             type_forms,
             layouts,
             strides,
+            bindings,
         })
     }
 
@@ -218,6 +223,15 @@ impl ModuleTables {
         naga_layout::misplaced(&module.types, &self.undeclared, &self.layouts, members)
     }
 
+    /// Whether one of these members has a binding, or is of a type with a struct in it that has
+    /// such a member.
+    pub(crate) fn have_bindings(&self, module: &Module, members: &[StructMember]) -> bool
+        requires tables { AreTablesOf «module».now self.now }
+        ensures { result ≡ have_bindings «module».now.types members.now }
+    {
+        have_bindings(&module.types, &self.bindings, members)
+    }
+
     /// Whether a struct of these members, that a text declares, has a layout: whether their offsets
     /// are to be kept, and can be.
     pub(crate) fn keeps_offsets(&self, module: &Module, members: &[StructMember], span: u32) -> bool
@@ -261,6 +275,14 @@ fn strides(
     ensures { IfOk result (λ kept. TellsStrides «module».now kept.items) }
 {
     strides_of(alloc, &module.types, undeclared, layouts)
+}
+
+/// Which types have a struct in them of which a member has a binding.
+fn bindings(alloc: Global, module: &Module) -> Result<Vec<bool>, AllocError>
+    requires ordered { ItemsStandInOrder «module».now }
+    ensures { IfOk result (λ marks. TellBindings «module».now.types marks.items) }
+{
+    bindings_of(alloc, &module.types)
 }
 
 /// How a type is laid out, by its cell.

@@ -6,16 +6,15 @@
 -- w one as it is written, ks and ws are lists of these, i is the number of a member, f tells how the struct
 -- of a name is laid out, levels is how deep structs are in one another, and depth how deep types are.
 use Rattle.std.proofs.Common.{◌≡◌, ◌<◌, ◌≤◌, ◌+◌, ℕ, zero, suc, Bool, true, false, List, [], ◌∷◌}
-use Rattle.std.proofs.Common.{Option, Some, None, refl, sym, ap, subst, ◌∙◌, arith, codes, length}
+use Rattle.std.proofs.Common.{Option, Some, None, refl, sym, ap, ap₂, subst, ◌∙◌, arith, codes, length}
 use Rattle.std.proofs.Common.{map}
-use Rattle.std.specs.Prelude.{if◌then◌else◌, nat_lt, not, slice_get, unwrap_or}
+use Rattle.std.specs.Prelude.{◌&&◌, ◌||◌, if◌then◌else◌, nat_lt, not, slice_get, unwrap_or}
 use Rattle.std.specs.Int.NonZero.{non_zero_u32_get}
 use Rattle.std.specs.List.{enumerate_from, list_all}
-use Rattle.std.specs.Option.{is_none, option_and_then, option_map, option_map_or}
+use Rattle.std.specs.Option.{option_and_then, option_map, option_map_or}
 use Rattle.std.proofs.lemmas.Bool.{and_parts, ltb-true}
 use Rattle.std.proofs.lemmas.Option.{same_Some}
 use Rattle.naga_info.proofs.Options.{map_some, then_some}
-use Rattle.naga_ir.specs.declared.binding.Binding.{Binding}
 use Rattle.naga_ir.specs.declared.module.Module.{Module}
 use Rattle.naga_ir.specs.declared.types.ArraySize.{ArraySize}
 use Rattle.naga_ir.specs.declared.types.ArraySize.TheVariants as size
@@ -24,6 +23,7 @@ use Rattle.naga_ir.specs.declared.types.Type_.{Type_}
 use Rattle.naga_ir.specs.declared.types.TypeInner.{TypeInner}
 use Rattle.naga_ir.specs.declared.types.TypeInner.TheVariants as inner
 use Rattle.naga_layout.proofs.Levels.{layout_is}
+use Rattle.naga_layout.specs.Bindings.{have_bindings}
 use Rattle.naga_layout.specs.Types.{StandInOrder, component_number, has_atomic_size, has_size}
 use Rattle.naga_layout.specs.Types.{is_number, is_wide, kept_members, kept_struct, layout_at}
 use Rattle.naga_layout.specs.Types.{layout_within, named_layout_by, parts_before, placed_member}
@@ -32,8 +32,8 @@ use Rattle.naga_naming.specs.Keys.{NameMap}
 use Rattle.naga_naming.specs.Reset.{members_of}
 use Rattle.naga_spelling.specs.Contexts.{Names as TypeNames}
 use Rattle.naga_spelling.specs.Words.{matrix_word, vector_word}
-use Rattle.module_semantics.specs.Layouts.{concerned_members, concerned_of, concerned_only, layout_in}
-use Rattle.module_semantics.specs.Layouts.{module_rule, size_among, span_at, span_of, written_size}
+use Rattle.module_semantics.specs.Layouts.{are_to_keep, concerned_members, concerned_of, concerned_only}
+use Rattle.module_semantics.specs.Layouts.{layout_in, module_rule, size_among, span_at, span_of, written_size}
 use Rattle.module_semantics.specs.Names.{module_names}
 use Rattle.module_semantics.specs.Types.{type_names}
 use Rattle.module_semantics.specs.Undeclared.{is_declared, is_undeclared}
@@ -49,6 +49,7 @@ use Rattle.wgsl_layout.specs.declared.layouts.Placed.{Placed}
 use Rattle.wgsl_text.specs.Declarations.{Struct}
 use Rattle.wgsl_text.specs.Types.{TypeSpecifier, Named, of_one}
 use Rattle.wgsl_text.specs.Words.{IsIdentifier}
+use Rattle.naga_form.proofs.declarations.Attributes.{size_is}
 use Rattle.naga_form.proofs.types.LayoutWords.{atomic_is_read, atomic_over, matrix_over, no_scalar}
 use Rattle.naga_form.proofs.types.LayoutWords.{scalar_is_read, vector_over}
 use Rattle.naga_form.specs.Attributes.{member_attributes}
@@ -64,23 +65,12 @@ if_some true o x is = (refl, is)
 if_some false o x is = absurd cc
 
 -- ---- members
--- a member's size is read as it was written
-size_is : (o : Option ℕ) → size_read (member_attributes o None) ≡ o
-size_is None = refl
-size_is (Some n) = refl
-
 -- what is known of one that has a place
 placed_is : (f : ℕ → Option Layout) (k : ir_member.StructMember) (p : Placed) → placed_member f k ≡ Some p →
-    (k.binding ≡ None) × (f k.ty ≡ Some p.layout)
+    f k.ty ≡ Some p.layout
 placed_is f k p is =
-    let parts = if_some (is_none k.binding)
-    (option_map (λ l. record { layout = l; offset = k.offset }) (f k.ty)) p is in
-    let own = map_some (λ (l : Layout). record { layout = l; offset = k.offset }) (f k.ty) p parts.1 in
-    (none k.binding parts.0, own.1 ∙ ap (λ l. Some l) (ap (λ (p : Placed). p.layout) own.2))
-  where
-    none : (o : Option Binding) → is_none o ≡ true → o ≡ None
-    none None is = refl
-    none (Some b) is = absurd cc
+    let own = map_some (λ (l : Layout). record { layout = l; offset = k.offset }) (f k.ty) p is in
+    own.1 ∙ ap (λ l. Some l) (ap (λ (p : Placed). p.layout) own.2)
 
 more_placed : (f : ℕ → Option Layout) (k : ir_member.StructMember) (more : List ir_member.StructMember)
     (ks : List Placed) →
@@ -102,13 +92,10 @@ module _ (m : Module) (names : NameMap) (t : TypeNames) (h : ℕ) (f : List ℕ 
       ≡ w.given →
       member_laid f (member_form names t m h (i, k)) ≡ Some w
   one_laid i k p w placed before have given =
-      let is = placed_is (layout_in m) k p placed in
       ap (option_map (λ l. record { layout = l; given = size_read (member_attributes (written_size m h i) k.binding) }))
-      (reads k.ty p.layout (ltb-true k.ty h before) is.1)
-      ∙ (ap (λ b. Some
-      (record { layout = p.layout; given = size_read (member_attributes (written_size m h i) b) })) is.0
-      ∙ (ap (λ g. Some (record { layout = p.layout; given = g })) (size_is (written_size m h i) ∙ given)
-      ∙ ap (λ l. Some (record { layout = l; given = w.given })) (sym have)))
+      (reads k.ty p.layout (ltb-true k.ty h before) (placed_is (layout_in m) k p placed))
+      ∙ (ap (λ g. Some (record { layout = p.layout; given = g })) (size_is (written_size m h i) k.binding ∙ given)
+      ∙ ap (λ l. Some (record { layout = l; given = w.given })) (sym have))
 
   laid_from : (i : ℕ) (rest : List ir_member.StructMember) (ks : List Placed) (ws : List Member) →
       placed_members (layout_in m) rest ≡ Some ks → list_all (λ k. nat_lt k.ty h) rest ≡ true → HaveLayoutsOf ks ws →
@@ -191,33 +178,43 @@ module _ (m : Module) (structs : List Struct) (count : ℕ → ℕ) (order : Sta
   }
 
   -- ---- structs that are concerned
-  only_concerned : (xs ks : List Placed) → concerned_only xs ≡ Some ks → (is_concerned xs ≡ true) × (xs ≡ ks)
-  only_concerned xs ks is =
-      let parts = if_some (is_concerned xs) (Some xs) ks is in (parts.0, same_Some xs ks parts.1)
+  only_concerned : (bindings : Bool) (xs ks : List Placed) → concerned_only bindings xs ≡ Some ks →
+      (are_to_keep bindings xs ≡ true) × (xs ≡ ks)
+  only_concerned bindings xs ks is =
+      let parts = if_some (are_to_keep bindings xs) (Some xs) ks is in (parts.0, same_Some xs ks parts.1)
+
+  -- one of its members has a binding, or a struct in it with such a member
+  abbrev bound : TypeInner → Bool
+  bound it = have_bindings m.types (members_of it)
 
   -- what makes a struct one
   pub record IsConcerned (h : ℕ) (it : TypeInner) (ks : List Placed) : Type 0 where
     pub declared : is_declared m.special_types h it ≡ true
     pub placed : placed_members (layout_in m) (members_of it) ≡ Some ks
     pub concerned : is_concerned ks ≡ true
+    pub can : (are_kept None ks || not (bound it)) ≡ true
 
   pub concerned_parts : (h : ℕ) (it : TypeInner) (ks : List Placed) → concerned_of m h it ≡ Some ks →
       IsConcerned h it ks
   concerned_parts h it ks is =
       let parts = if_some (is_declared m.special_types h it)
-      (option_and_then concerned_only (placed_members (layout_in m) (members_of it))) ks is in
-      let own = then_some concerned_only (placed_members (layout_in m) (members_of it)) ks parts.1 in
-      let only = only_concerned own.0 ks own.2 in record {
+      (option_and_then (concerned_only (bound it)) (placed_members (layout_in m) (members_of it))) ks is in
+      let own = then_some (concerned_only (bound it)) (placed_members (layout_in m) (members_of it)) ks parts.1 in
+      let only = only_concerned (bound it) own.0 ks own.2 in
+      let to_keep = and_parts (is_concerned ks) (are_kept None ks || not (bound it))
+      (ap (are_to_keep (bound it)) (sym only.1) ∙ only.0) in record {
         declared = parts.0;
         placed = own.1 ∙ ap (λ ks. Some ks) only.1;
-        concerned = ap is_concerned (sym only.1) ∙ only.0;
+        concerned = to_keep.0;
+        can = to_keep.1;
       }
 
   concerned_from : (h : ℕ) (it : TypeInner) (ks : List Placed) → IsConcerned h it ks → concerned_of m h it ≡ Some ks
   concerned_from h it ks is =
-      ap (λ b. if b then option_and_then concerned_only (placed_members (layout_in m) (members_of it))
+      ap (λ b. if b then option_and_then (concerned_only (bound it)) (placed_members (layout_in m) (members_of it))
       else None) is.declared
-      ∙ (ap (option_and_then concerned_only) is.placed ∙ ap (λ b. if b then Some ks else None) is.concerned)
+      ∙ (ap (option_and_then (concerned_only (bound it))) is.placed
+      ∙ ap₂ (λ a b. if a && b then Some ks else None) is.concerned is.can)
 
   sizes_are : (h : ℕ) (it : TypeInner) (ks : List Placed) → IsTypeAt h it → IsConcerned h it ks → (j : ℕ) (w : Member) →
       slice_get (written_members (span_of it) ks) j ≡ Some w → written_size m h (0 + j) ≡ w.given
@@ -261,11 +258,11 @@ module _ (m : Module) (structs : List Struct) (count : ℕ → ℕ) (order : Sta
 
     -- a struct that has a layout is concerned
     concerns : (ks : List Placed) (span : ℕ) (l : Layout) → kept_members span ks ≡ Some l →
-        (is_concerned ks ≡ true) × (struct_layout (written_members span ks) ≡ Some l)
+        (is_concerned ks ≡ true) × (are_kept None ks ≡ true) × (struct_layout (written_members span ks) ≡ Some l)
     concerns [] span l is = absurd cc
     concerns (k ∷ left) span l is =
         let parts = if_some (are_kept None (k ∷ left)) (struct_layout (written_members span (k ∷ left))) l is in
-        (kept_concerned k left parts.0, parts.1)
+        (kept_concerned k left parts.0, parts.0, parts.1)
 
     named_read : (it : TypeInner) (ks : List Placed) (l : Layout) → IsTypeAt h it → IsConcerned h it ks →
         struct_layout (written_members (span_of it) ks) ≡ Some l → (levels : ℕ) → suc (count h) ≤ levels →
@@ -358,7 +355,12 @@ module _ (m : Module) (structs : List Struct) (count : ℕ → ℕ) (order : Sta
         let kept = then_some (kept_members span) (placed_members (layout_in m) members.items) l declared.1 in
         let is = concerns kept.0 span l kept.2 in
         struct_is_read depth levels (inner.Struct members span) kept.0 l type
-        (record { declared = declared.0; placed = kept.1; concerned = is.0 }) is.1 le
+        (record {
+          declared = declared.0;
+          placed = kept.1;
+          concerned = is.0;
+          can = ap (λ b. b || not (have_bindings m.types members.items)) is.1;
+        }) is.2 le
     inner_is_read depth levels deep le _ type l is = absurd cc
 
   -- what has a layout is there
