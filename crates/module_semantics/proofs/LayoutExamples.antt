@@ -2,8 +2,8 @@
 -- computed: which are concerned, what is written, what stands against them, and texts that keep them.
 use Rattle.std.proofs.Common.{◌≡◌, ℕ, Bool, false, true, List, [], ◌∷◌, None, Option, Some, refl}
 use Rattle.std.proofs.Common.{arith, map, Global, Vec}
-use Rattle.std.specs.Prelude.{codes}
-use Rattle.std.specs.Option.{is_none, option_map, option_map_or}
+use Rattle.std.specs.Prelude.{codes, if◌then◌else◌}
+use Rattle.std.specs.Option.{is_none, option_and_then, option_map, option_map_or}
 use Rattle.indexmap.specs.IndexMap.{with_entries}
 use Rattle.naga_ir.specs.declared.binding.Binding.TheVariants as binding
 use Rattle.naga_ir.specs.declared.binding.BuiltIn.TheVariants as builtin
@@ -16,15 +16,19 @@ use Rattle.naga_ir.specs.declared.types.TypeInner.{TypeInner}
 use Rattle.naga_ir.specs.declared.types.TypeInner.TheVariants as inner
 use Rattle.naga_ir.specs.declared.types.VectorSize.TheVariants as vector
 use Rattle.naga_layout.specs.Bindings.{has_bindings}
-use Rattle.naga_layout.specs.Types.{arrays_are_kept, layout_at}
-use Rattle.wgsl_layout.specs.Members.{is_off_alignment, overlaps}
+use Rattle.naga_layout.specs.Types.{arrays_are_kept, layout_at, placed_member, placed_members}
+use Rattle.naga_naming.specs.Reset.{members_of}
+use Rattle.wgsl_layout.specs.Members.{is_concerned, is_off_alignment, overlaps}
+use Rattle.wgsl_layout.specs.declared.layouts.Layout.{Layout}
 use Rattle.wgsl_layout.specs.declared.layouts.Placed.{Placed}
 use Rattle.wgsl_text.specs.Attributes.{Attribute, Numbered, Size}
 use Rattle.wgsl_text.specs.Declarations.{Struct}
 use Rattle.wgsl_text.specs.Types.{SizeArgument, Template, TypeArgument, NoTemplateArguments}
 use Rattle.wgsl_text.specs.WorkedTrees as worked
 use Rattle.text_semantics.specs.Layout.{offsets_read, size_of_struct_read, struct_layout_read}
-use Rattle.module_semantics.specs.Layouts.{concerned_members, module_rule, span_at, written_size}
+use Rattle.module_semantics.specs.Layouts.{concerned_members, concerned_of, layout_in, module_rule}
+use Rattle.module_semantics.specs.Layouts.{span_at, written_size}
+use Rattle.module_semantics.specs.Undeclared.{is_declared}
 use Rattle.module_semantics.proofs.InterfaceExamples.{two}
 use Rattle.module_semantics.proofs.ModuleShapeExamples.{one}
 
@@ -90,6 +94,7 @@ module _ (other : Module) (members : Vec StructMember Global) where
       external_texture_params = Some 19;
       external_texture_transfer_function = None;
     };
+    keeps_bound_offsets = true;
   }
 
   abbrev offsets : (h : ℕ) → Option (List ℕ)
@@ -127,6 +132,35 @@ module _ (other : Module) (members : Vec StructMember Global) where
       ≡ true ∷ true ∷ true ∷ true ∷ true ∷ true ∷ true ∷ true ∷ []
   unfolding layout_at has_bindings
   no_others = refl
+
+  -- ---- where bound structs need not keep their offsets
+  abbrev free : Module
+  free = record m { keeps_bound_offsets = false }
+
+  -- none that has bindings is concerned, and all others are as above
+  none_bound : map (λ h. is_none (concerned_members free h)) (13 ∷ 22 ∷ 23 ∷ 24 ∷ 25 ∷ [])
+      ≡ true ∷ true ∷ true ∷ true ∷ true ∷ []
+  unfolding layout_at has_bindings
+  none_bound = refl
+
+  others_alike : map (concerned_members free) (0 ∷ 2 ∷ 3 ∷ 4 ∷ 7 ∷ 8 ∷ 9 ∷ 10 ∷ 11 ∷ 12 ∷ 15 ∷ 16 ∷ 18 ∷ 19 ∷ 21 ∷ [])
+      ≡ map (concerned_members m) (0 ∷ 2 ∷ 3 ∷ 4 ∷ 7 ∷ 8 ∷ 9 ∷ 10 ∷ 11 ∷ 12 ∷ 15 ∷ 16 ∷ 18 ∷ 19 ∷ 21 ∷ [])
+  unfolding layout_at has_bindings
+  others_alike = refl
+
+  -- of any module, nothing is asked but that all members are laid out, none with a binding, and that these
+  -- members are concerned
+  unasked_placed : (f : ℕ → Option Layout) (k : StructMember) →
+      placed_member false f k ≡
+      (if is_none k.binding then option_map (λ l. record { layout = l; offset = k.offset }) (f k.ty) else None)
+  unasked_placed f k = refl
+
+  unasked : (it : TypeInner) (h : ℕ) →
+      concerned_of (record other { keeps_bound_offsets = false }) h it ≡
+      (if is_declared other.special_types h it
+      then option_and_then (λ ks. if is_concerned ks then Some ks else None)
+      (placed_members false (layout_in (record other { keeps_bound_offsets = false })) (members_of it)) else None)
+  unasked it h = refl
 
   -- ---- what is written
   abbrev sizes : (h : ℕ) → List (Option ℕ)

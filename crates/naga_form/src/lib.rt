@@ -45,9 +45,10 @@ pub fn has_the_interface()
 /// WGSL's rules of layout, applied to the structs of the program alone, leave the members of each
 /// struct that is concerned at the module's offsets. They give the struct its span, if that has
 /// room for all its members and is a multiple of the struct's alignment. It concerns each struct
-/// that a text declares, that has members, all of them with a layout, of which none but the first
-/// is at 0 and all but the last have a size. Where one has a binding, or a struct in it has such a
-/// member, it does only if all can be left where they are.
+/// that a text declares, that has members, all of them with a layout and none with a binding, of
+/// which none but the first is at 0 and all but the last have a size. In a module that keeps the
+/// offsets of bound structs it concerns those with bindings too, if all members can be left where
+/// they are.
 pub fn keeps_the_layouts()
     ensures { KeepsTheLayouts }
 {}

@@ -17,8 +17,8 @@ use Rattle.naga_ir.specs.declared.types.TypeInner.TheVariants as inner
 use Rattle.naga_ir.specs.declared.types.VectorSize.TheVariants as vector
 use Rattle.wgsl_layout.specs.declared.layouts.Layout.{Layout}
 use Rattle.naga_layout.specs.Bindings.{has_bindings}
-use Rattle.naga_layout.specs.Types.{told}
-use Rattle.naga_layout.specs.Types.{Rule, arrays_are_kept, inner_layout_by, layout_at, user_rule}
+use Rattle.naga_layout.specs.Types.{Rule, arrays_are_kept, inner_layout_by, layout_at, told}
+use Rattle.naga_layout.specs.Types.{told_rule, user_rule}
 
 abbrev bytes : (a s : ℕ) → Option Layout
 bytes a s = Some (record { alignment = a; size = Some s })
@@ -28,7 +28,7 @@ scalar k n = record { kind = k; width = n }
 
 -- ---- types that name no other
 abbrev layout_of : TypeInner → Option Layout
-layout_of it = inner_layout_by true (λ h. None) it
+layout_of it = inner_layout_by user_rule (λ h. None) it
 
 i16 : layout_of (inner.Scalar (scalar kind.Sint 2)) ≡ bytes 2 2
 i16 = refl
@@ -178,20 +178,32 @@ module _ (v : Vec StructMember Global) where
   unfolding layout_at
   tail = refl
 
-  -- members with bindings are laid out as others are, and may be at one offset, so that none is
-  with_binding : told_at 15 ≡ bytes 4 4
+  -- a member with a binding, and structs in which there are some
+  unbound : map told_at (15 ∷ 19 ∷ 20 ∷ 21 ∷ 22 ∷ []) ≡ None ∷ None ∷ None ∷ None ∷ None ∷ []
+  unfolding layout_at
+  unbound = refl
+
+  -- by the other rule they are laid out as others are, and may be at one offset, so that none is
+  abbrev bound_at : (h : ℕ) → Option Layout
+  bound_at h = layout_at (told_rule true) types h
+
+  with_binding : bound_at 15 ≡ bytes 4 4
   unfolding layout_at
   with_binding = refl
 
-  with_bindings : told_at 19 ≡ bytes 4 20
+  with_bindings : bound_at 19 ≡ bytes 4 20
   unfolding layout_at
   with_bindings = refl
 
-  bound_inside : told_at 21 ≡ bytes 4 52
+  bound_inside : bound_at 21 ≡ bytes 4 52
   unfolding layout_at
   bound_inside = refl
 
-  bound_at_one : told_at 22 ≡ None
+  no_other : map bound_at (3 ∷ 10 ∷ 13 ∷ []) ≡ map told_at (3 ∷ 10 ∷ 13 ∷ [])
+  unfolding layout_at
+  no_other = refl
+
+  bound_at_one : bound_at 22 ≡ None
   unfolding layout_at
   bound_at_one = refl
 
@@ -214,7 +226,7 @@ module _ (v : Vec StructMember Global) where
 
   -- ---- as a text is written, in which the struct at 5 is not declared
   abbrev text_rule : Rule
-  text_rule = record { strict = false; declared = λ h. not (h == 5) }
+  text_rule = record { strict = false; bound = false; declared = λ h. not (h == 5) }
 
   -- whatever the module's stride is
   wide_text : layout_at (record text_rule { declared = λ h. true }) types 8 ≡ bytes 4 32

@@ -22,7 +22,8 @@ use Rattle.module_semantics.specs.DeclarationForms.IsInitialiser.{OfVariable as 
 use Rattle.module_semantics.specs.DeclarationForms.IsMemberBinding.{OfMember as MemberBinding}
 use Rattle.module_semantics.specs.DeclarationForms.IsIoBinding.{OfArgument, OfResult}
 use Rattle.module_semantics.specs.Layouts.{HasOtherStride, IsMisplaced, are_to_keep, concerned_members}
-use Rattle.module_semantics.specs.Layouts.{concerned_of, concerned_only, layout_in, module_rule}
+use Rattle.module_semantics.specs.Layouts.{concerned_of, concerned_only, keeps_bindings, layout_in, module_rule}
+use Rattle.module_semantics.specs.Layouts.{placed_in}
 use Rattle.module_semantics.specs.Undeclared.{is_declared, is_spellable, is_undeclared}
 use Rattle.module_semantics.specs.ExpressionForms.{global_has_form}
 use Rattle.naga_info.specs.declared.info.TypeResolution.TheVariants.{Handle}
@@ -41,8 +42,7 @@ use Rattle.naga_ir.specs.declared.types.Type_.{Type_}
 use Rattle.naga_ir.specs.declared.types.TypeInner.TheVariants as inner
 use Rattle.naga_layout.proofs.Concerned.{concerned_laid, laid_concerned, none_stands}
 use Rattle.naga_layout.proofs.Left.{all_aligned}
-use Rattle.naga_layout.specs.Bindings.{have_bindings}
-use Rattle.naga_layout.specs.Types.{arrays_are_kept, kept_struct, placed_members}
+use Rattle.naga_layout.specs.Types.{arrays_are_kept, kept_struct}
 use Rattle.naga_naming.specs.Reset.{members_of}
 use Rattle.naga_refusals.specs.declared.construct.Construct.{Construct}
 use Rattle.naga_refusals.specs.declared.construct.Construct.TheVariants as construct
@@ -282,7 +282,7 @@ module _ (m : Module) where
     }
 
     stride_in : (ty : ℕ) (ks : List Placed) → concerned_among m (members_of t.inner) ≡ Some ks →
-        IsFalse (have_bindings m.types (members_of t.inner)) →
+        IsFalse (keeps_bindings m (members_of t.inner)) →
         (i : ℕ) (s : StructMember) → slice_get (members_of t.inner) i ≡ Some s → IsOtherStride m s ty →
         HasOtherStride m h ty
     stride_in ty ks concerned free i s there other = record {
@@ -468,7 +468,7 @@ module _ (m : Module) where
         let both : Some other.whole ≡ Some found.0 = sym other.at ∙ found.1 in
         let same : other.whole ≡ found.0 = cc in
         let there = ap (λ (t : Type_). slice_get (members_of t.inner) other.number) (sym same) ∙ other.there in
-        let free = ap (λ (t : Type_). have_bindings m.types (members_of t.inner)) (sym same) ∙ other.free in
+        let free = ap (λ (t : Type_). keeps_bindings m (members_of t.inner)) (sym same) ∙ other.free in
         let kept = found.3.strides other.members found.2 free other.number other.member there in
         false≢true (sym (ap (arrays_are_kept (module_rule m) m.types) other.is ∙ other.other) ∙ kept)
 
@@ -532,58 +532,50 @@ module _ (f : Function) (arguments : List FunctionArgument) (are : arguments ≡
 -- ---- the members of a struct
 module _ (m : Module) (members : List StructMember) where
   abbrev bindings : Bool
-  bindings = have_bindings m.types members
+  bindings = keeps_bindings m members
 
   -- all that are placed are concerned, or not
   among : (ks : List Placed) → concerned_among m members ≡ Some ks →
-      (placed_members (layout_in m) members ≡ Some ks) × (is_concerned ks ≡ true)
-      × ((are_kept None ks || not bindings) ≡ true)
-  among ks concerned = by (placed_members (layout_in m) members) concerned
+      (placed_in m members ≡ Some ks) × (is_concerned ks ≡ true)
+      × ((not bindings || are_kept None ks) ≡ true)
+  among ks concerned = by (placed_in m members) concerned
     where
       by : (o : Option (List Placed)) → option_and_then (concerned_only bindings) o ≡ Some ks →
-          (o ≡ Some ks) × (is_concerned ks ≡ true) × ((are_kept None ks || not bindings) ≡ true)
+          (o ≡ Some ks) × (is_concerned ks ≡ true) × ((not bindings || are_kept None ks) ≡ true)
       by None concerned = absurd cc
       by (Some ps) concerned = at (are_to_keep bindings ps) refl concerned
         where
           at : (b : Bool) → are_to_keep bindings ps ≡ b → (if b then Some ps else None) ≡ Some ks →
-              (Some ps ≡ Some ks) × (is_concerned ks ≡ true) × ((are_kept None ks || not bindings) ≡ true)
+              (Some ps ≡ Some ks) × (is_concerned ks ≡ true) × ((not bindings || are_kept None ks) ≡ true)
           at false is concerned = absurd cc
           at true is concerned =
               let same : ps ≡ ks = cc in
-              let parts = and_parts (is_concerned ks) (are_kept None ks || not bindings)
+              let parts = and_parts (not bindings || are_kept None ks) (is_concerned ks)
               (subst (λ ks. are_to_keep bindings ks ≡ true) same is) in
-              (concerned, parts.0, parts.1)
+              (concerned, parts.1, parts.0)
 
-  from_placed : (ks : List Placed) → placed_members (layout_in m) members ≡ Some ks → is_concerned ks ≡ true →
+  from_placed : (ks : List Placed) → placed_in m members ≡ Some ks → is_concerned ks ≡ true →
       bindings ≡ false → concerned_among m members ≡ Some ks
   from_placed ks are is free =
       ap (option_and_then (concerned_only bindings)) are
-      ∙ ap₂ (λ a b. if a && b then Some ks else None) is (any (are_kept None ks) bindings free)
-    where
-      any : (kept b : Bool) → b ≡ false → (kept || not b) ≡ true
-      any true b free = refl
-      any false b free = ap not free
+      ∙ ap₂ (λ a b. if (not a || are_kept None ks) && b then Some ks else None) free is
 
   -- there are bindings, so that one that is concerned is kept
   pub by_bindings : FindsMember m members None → true ≡ bindings → StructHasForm m members
   by_bindings formed bound = record {
     each = formed;
     offsets = λ ks concerned fault stands.
-        none_stands ks (kept (are_kept None ks) bindings (sym bound) (among ks concerned).2) fault stands;
+        none_stands ks (ap (λ b. not b || are_kept None ks) bound ∙ (among ks concerned).2) fault stands;
     strides = λ ks concerned free i s there. absurd (false≢true (sym free ∙ sym bound));
   }
-    where
-      kept : (kept b : Bool) → b ≡ true → (kept || not b) ≡ true → kept ≡ true
-      kept true b bound can = refl
-      kept false b bound can = absurd (false≢true (sym (ap not bound) ∙ can))
 
   -- a fault is found
   pub by_fault : (fault : Misplaced) → FindsMember m members None → false ≡ bindings →
-      Some fault ≡ option_and_then (first_fault None None) (placed_members (layout_in m) members) →
+      Some fault ≡ option_and_then (first_fault None None) (placed_in m members) →
       IsUnsupportedStruct m members (misplaced_construct fault)
-  by_fault fault formed free found = by (placed_members (layout_in m) members) refl (sym found)
+  by_fault fault formed free found = by (placed_in m members) refl (sym found)
     where
-      by : (o : Option (List Placed)) → placed_members (layout_in m) members ≡ o →
+      by : (o : Option (List Placed)) → placed_in m members ≡ o →
           option_and_then (first_fault None None) o ≡ Some fault →
           IsUnsupportedStruct m members (misplaced_construct fault)
       by None are found = absurd cc
@@ -594,8 +586,8 @@ module _ (m : Module) (members : List StructMember) where
 
   -- none is found
   module _ (finds : FindsMember m members None)
-      (none : None ≡ option_and_then (first_fault None None) (placed_members (layout_in m) members)) where
-    first_none : (ks : List Placed) → placed_members (layout_in m) members ≡ Some ks → first_fault None None ks ≡ None
+      (none : None ≡ option_and_then (first_fault None None) (placed_in m members)) where
+    first_none : (ks : List Placed) → placed_in m members ≡ Some ks → first_fault None None ks ≡ None
     first_none ks are = sym (none ∙ ap (option_and_then (first_fault None None)) are)
 
     no_fault : (ks : List Placed) → concerned_among m members ≡ Some ks → (fault : Misplaced) → StandsAmong fault ks → ⊥
@@ -613,20 +605,20 @@ module _ (m : Module) (members : List StructMember) where
     }
 
     module _ (span : ℕ) where
-      pub by_none : false ≡ is_some (kept_struct (layout_in m) members span) → StructHasForm m members
+      pub by_none : false ≡ is_some (kept_struct m.keeps_bound_offsets (layout_in m) members span) → StructHasForm m members
       by_none unlaid = record {
         each = finds;
         offsets = no_fault;
         strides = λ ks concerned free i s there.
             let found = among ks concerned in
-            absurd (false≢true (unlaid ∙ concerned_laid (layout_in m) (all_aligned (module_rule m) m.types)
+            absurd (false≢true (unlaid ∙ concerned_laid m.keeps_bound_offsets (layout_in m) (all_aligned (module_rule m) m.types)
             members span ks found.0 found.1 (first_none ks found.0)));
       }
 
     pub by_other : (span ty : ℕ) → FindsStride m members (Some ty) → false ≡ bindings →
-        true ≡ is_some (kept_struct (layout_in m) members span) → IsUnsupportedStruct m members construct.ArrayStride
+        true ≡ is_some (kept_struct m.keeps_bound_offsets (layout_in m) members span) → IsUnsupportedStruct m members construct.ArrayStride
     by_other span ty stride free laid =
-        let placed = laid_concerned (layout_in m) members span (sym laid) in
+        let placed = laid_concerned m.keeps_bound_offsets (layout_in m) members span (sym laid) in
         let concerned = from_placed placed.placed placed.are placed.concerned (sym free) in
         OfArray placed.placed ty finds concerned (sym free) (no_fault placed.placed concerned) stride refl
 

@@ -37,8 +37,8 @@ use Rattle.naga_tables.specs.Refusals.{global_refusal}
 -- The tables, with a cell for each of the module's own expressions or for each type: by what
 -- expressions are refused, and by which they are written; which structs no text declares, which
 -- types name one, which are spelled, how each is laid out, whether the arrays that each is made of
--- have the stride that WGSL gives them, and which have a struct in them of which a member has a
--- binding.
+-- have the stride that WGSL gives them, and, where the module keeps the offsets of bound structs,
+-- which have a struct in them of which a member has a binding.
 pub record Tables : Type 0 where
   pub global_refusals : List (Option Construct)
   pub representatives : List ℕ
@@ -117,6 +117,10 @@ TellsLayouts m cells = (h : ℕ) → cell_at cells h ≡ option_map capped (layo
 abbrev pub TellsStrides : Module → List Bool → Type 0
 TellsStrides m kept = (h : ℕ) → mark_at kept h ≡ arrays_are_kept (module_rule m) m.types h
 
+-- the marks tell which types have bindings, where the module keeps the offsets of bound structs
+abbrev pub TellsBindings : Module → (marks : List Bool) → Type 0
+TellsBindings m marks = IsTrue m.keeps_bound_offsets → TellBindings m.types marks
+
 -- ---- own expressions
 -- what a cell tells, where one without a cell is no constant
 abbrev pub refusal_at : (cells : List (Option Construct)) → (h : ℕ) → Option Construct
@@ -169,4 +173,4 @@ pub record AreTablesOf (m : Module) (t : Tables) : Type 0 where
   pub type_forms : MarksTypeForms m t.type_forms
   pub layouts : TellsLayouts m t.layouts
   pub strides : TellsStrides m t.strides
-  pub bindings : TellBindings m.types t.bindings
+  pub bindings : TellsBindings m t.bindings

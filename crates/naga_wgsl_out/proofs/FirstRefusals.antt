@@ -17,7 +17,7 @@ use Rattle.module_semantics.specs.DeclarationForms.IsInitialiser.{OfVariable as 
 use Rattle.module_semantics.specs.DeclarationForms.IsMemberBinding.{OfMember as MemberBinding}
 use Rattle.module_semantics.specs.DeclarationForms.IsIoBinding.{OfArgument, OfResult}
 use Rattle.module_semantics.specs.FunctionNumbers.{all_functions, all_infos}
-use Rattle.module_semantics.specs.Layouts.{concerned_members, concerned_of, module_rule}
+use Rattle.module_semantics.specs.Layouts.{concerned_members, concerned_of, keeps_bindings, module_rule}
 use Rattle.module_semantics.specs.ExpressionForms.{global_has_form}
 use Rattle.naga_info.specs.declared.info.ModuleInfo.{ModuleInfo}
 use Rattle.naga_ir.specs.declared.module.Constant.{Constant}
@@ -28,7 +28,6 @@ use Rattle.naga_ir.specs.declared.module.Module.{Module}
 use Rattle.naga_ir.specs.declared.module.Override.{Override}
 use Rattle.naga_ir.specs.declared.types.StructMember.{StructMember}
 use Rattle.naga_ir.specs.declared.types.Type_.{Type_}
-use Rattle.naga_layout.specs.Bindings.{have_bindings}
 use Rattle.naga_layout.specs.Types.{arrays_are_kept}
 use Rattle.naga_naming.specs.Reset.{members_of}
 use Rattle.naga_scope.proofs.Planned.{shape_found}
@@ -153,7 +152,7 @@ module _ (m : Module) where
             ∙ ap (λ b. if b then concerned_among m (members_of t.inner) else None) is_there
 
         kept : (ks : List Placed) → concerned_among m (members_of t.inner) ≡ Some ks →
-            have_bindings m.types (members_of t.inner) ≡ false → (i : ℕ) (s : StructMember) →
+            keeps_bindings m (members_of t.inner) ≡ false → (i : ℕ) (s : StructMember) →
             slice_get (members_of t.inner) i ≡ Some s → (b : Bool) →
             arrays_are_kept (module_rule m) m.types s.ty ≡ b → arrays_are_kept (module_rule m) m.types s.ty ≡ true
         kept ks concerned free i s there true is = is

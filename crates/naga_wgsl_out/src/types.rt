@@ -21,8 +21,9 @@ pub use naga_words::{SinkError, TextSink, TypeContext, TypeTextError, WriterType
 ///   and the like, and what has such a part;
 /// - an override gives the length of an array, or an array's elements have no size;
 /// - an array's elements begin at another distance in the module than WGSL has them begin;
-/// - a struct has no members, or one that can't stay where it is: the first not at 0, another at 0,
-///   one off its alignment, before the end of the one before it, or after one that has no size.
+/// - a struct has no members, one with a binding, or one that can't stay where it is: the first not
+///   at 0, another at 0, one off its alignment, before the end of the one before it, or after one
+///   that has no size.
 ///
 /// The size of a struct is its span in the module, where that is a multiple of the alignment and
 /// has room for the last member, and the one that WGSL's rules give it otherwise.
