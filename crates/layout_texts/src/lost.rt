@@ -6,23 +6,39 @@ ghost use Rattle.naga_layout.specs.Bindings.{TellBindings, binding_mark_at};
 ghost use Rattle.module_semantics.specs.acceptance.Ranges.{parts_stand_before};
 ghost use Rattle.layout_texts.specs.LostLayouts.{has_bound_buffer, held_by, held_type};
 ghost use Rattle.layout_texts.specs.LostLayouts.{is_bound_buffer, is_shared, loses_layout};
-ghost use Rattle.layout_texts.specs.LostLayouts.{lost_layouts, type_loses_layout};
+ghost use Rattle.layout_texts.specs.LostLayouts.{lost_among, lost_layouts, type_loses_layout};
 
 use naga_ir::{
     AddressSpace, Arena, GlobalVariable, Handle, Module, Type_, TypeInner, UniqueArena,
 };
-use naga_layout::{bindings_of, has_bindings, type_layout};
+use naga_layout::{bindings_of, has_bindings, layout_told};
 use std::alloc::{AllocError, Global};
 
 /// The buffers that the module's text lays out otherwise than the module does, though the module is
-/// written: each holds a struct with bindings, and not all that it holds can stay where the module
-/// has it. A struct without bindings is refused then, unless its layout is not to be kept.
+/// written and keeps the offsets of bound structs: each holds a struct with bindings, and not all that
+/// it holds can stay where the module has it. A struct without bindings is refused then, unless its
+/// layout is not to be kept. Of a module that doesn't keep these offsets there are none.
 pub fn lost_layouts(
     alloc: Global,
     module: &Module,
 ) -> Result<Vec<Handle<GlobalVariable>>, AllocError>
     requires ordered { IsTrue (parts_stand_before «module».now.types) }
     ensures { IfOk result (λ lost. lost.items ≡ lost_layouts «module».now) }
+{
+    if module.keeps_bound_offsets {
+        lost_among(alloc, module)
+    } else {
+        Ok(Vec::new(alloc))
+    }
+}
+
+/// Those that would be lost.
+fn lost_among(
+    alloc: Global,
+    module: &Module,
+) -> Result<Vec<Handle<GlobalVariable>>, AllocError>
+    requires ordered { IsTrue (parts_stand_before «module».now.types) }
+    ensures { IfOk result (λ lost. lost.items ≡ lost_among «module».now) }
 {
     let marks = bindings_in(alloc, &module.types)?;
     let mut lost = Vec::new(alloc);
@@ -149,7 +165,7 @@ fn type_loses_layout(types: &UniqueArena<Type_>, marks: &[bool], ty: Handle<Type
         return false;
     }
     if ty.index() < types.len() {
-        type_layout(types, ty).is_none()
+        layout_told(types, ty, true).is_none()
     } else {
         true
     }

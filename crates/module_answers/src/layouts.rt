@@ -30,10 +30,12 @@ pub fn layout_table(alloc: Global, module: &Module, info: &ModuleInfo) -> Result
 
 /// The buffers that the module's text lays out otherwise than the module does, though it is written
 /// ([`lost_layouts`]): their names in the text, in the order of the variables. There are none where
-/// no buffer holds a struct with bindings, and none of a module that is not accepted.
+/// no buffer holds a struct with bindings, none of a module that is not accepted, and none of one that
+/// doesn't keep the offsets of bound structs.
 ///
-/// Where the text is a standard one, let [`name_as_standard`](crate::name_as_standard) see the
-/// module first. The error is one of those of [`names_of`].
+/// Of a standard text they are told where [`write_decimal`](crate::write_decimal) or
+/// [`name_as_standard`](crate::name_as_standard) saw the module first. The error is one of those of
+/// [`names_of`].
 #[tactic(auto, using(module_semantics::proofs::Layouts::accepted_in_order))]
 pub fn lost_buffers(
     alloc: Global,
@@ -41,6 +43,9 @@ pub fn lost_buffers(
     info: &ModuleInfo,
 ) -> Result<Vec<String>, Error> {
     let mut buffers = Vec::new(alloc);
+    if !module.keeps_bound_offsets {
+        return Ok(buffers);
+    }
     if has_bound_buffer(alloc, module)? && unaccepted(module, info).is_none() {
         let lost = lost_layouts(alloc, module)?;
         if !lost.is_empty() {

@@ -2,7 +2,7 @@
 --
 -- Throughout, types are a module's types, h is the handle of one, it a type by itself, k a member, g and f
 -- tell whether types have bindings, i is how many cells of a table are filled, and xs are they.
-use Rattle.std.proofs.Common.{◌≡◌, ◌∙◌, ◌<◌, ◌≤◌, ◌+◌, ◌++◌, ℕ, zero, suc, Bool, false, List}
+use Rattle.std.proofs.Common.{◌≡◌, ◌∙◌, ◌<◌, ◌≤◌, ◌+◌, ◌++◌, ℕ, zero, suc, Bool, true, false, List}
 use Rattle.std.proofs.Common.{[], ◌∷◌, Option, Some, None}
 use Rattle.std.proofs.Common.{ap, arith, inl, inr, length, length-append, refl, slice_get, sym}
 use Rattle.std.specs.Prelude.{◌||◌, ◌⊎◌, IsTrue, nat_lt}

@@ -5,7 +5,7 @@ ghost use Rattle.std.specs.Prelude.{◌≤◌, IfOk};
 
 use crate::answer::Answer;
 use crate::names::names_beside;
-use crate::texts::write_in;
+use crate::texts::{lost_of, write_in};
 use fault_details::explain;
 use json::Scratch;
 use module_answers::{
@@ -266,7 +266,7 @@ fn tell_given(
                 holder,
             };
             tell_shader(alloc, &mut shader, style, members)?;
-            tell_lost(alloc, &mut shader, style, members)?;
+            tell_lost(alloc, &shader, members)?;
             tell_names(alloc, &mut shader, style, members)
         }
         Err(unasked) => tell_unasked(alloc, &module, unasked, holder, members),
@@ -310,21 +310,11 @@ fn tell_unwritten(
 }
 
 /// Tells which buffers a text lays out otherwise than the module does, where there are some.
-fn tell_lost(
-    alloc: Global,
-    shader: &mut Shader,
-    style: Style,
-    members: &mut Members,
-) -> Result<(), AllocError> {
+fn tell_lost(alloc: Global, shader: &Shader, members: &mut Members) -> Result<(), AllocError> {
     if outcome_in(members) != Outcome::Written {
         return Ok(());
     }
-    name_as_standard(&mut shader.module, !style.plain);
-    let buffers = match lost_buffers(alloc, &shader.module, &shader.info) {
-        Ok(buffers) => buffers,
-        Err(Error::Memory(error)) => return Err(error),
-        Err(_) => return Ok(()),
-    };
+    let buffers = lost_of(alloc, shader)?;
     if buffers.is_empty() {
         return Ok(());
     }

@@ -3,7 +3,7 @@ use Rattle.std.specs.Prelude.{if◌then◌else◌}
 use Rattle.std.specs.List.{enumerate_from, filter_map}
 use Rattle.layout_texts.proofs.Picked.{picked_after}
 use Rattle.layout_texts.specs.LostLayouts.{loses_layout}
-use Rattle.layout_texts.proofs.lost.lost_layouts.Given as goal
+use Rattle.layout_texts.proofs.lost.lost_among.Given as goal
 
 abbrev pub invariant-loop-handle : goal.invariant-loop-handle
 invariant-loop-handle l =

@@ -3,7 +3,7 @@ use Rattle.std.specs.Prelude.{if◌then◌else◌}
 use Rattle.naga_ir.specs.declared.module.GlobalVariable.{GlobalVariable}
 use Rattle.layout_texts.proofs.Picked.{all_picked, goes_on, picked_after}
 use Rattle.layout_texts.specs.LostLayouts.{loses_layout}
-use Rattle.layout_texts.proofs.lost.lost_layouts.Goals as goal
+use Rattle.layout_texts.proofs.lost.lost_among.Goals as goal
 
 pub loop-handle-init : goal.loop-handle-init
 loop-handle-init c =
