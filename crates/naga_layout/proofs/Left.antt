@@ -6,7 +6,7 @@
 use Rattle.std.proofs.Common.{◌≡◌, ◌∙◌, ◌*◌, ℕ, zero, suc, Bool, true, false, List, [], ◌∷◌, Option, Some, None}
 use Rattle.std.proofs.Common.{◌+◌, ap, arith, drop, length, max, refl, slice_get, subst, sym}
 use Rattle.std.specs.Prelude.{◌&&◌, ◌||◌, ◌==◌, ⊤, if◌then◌else◌, unwrap_or}
-use Rattle.std.specs.Option.{is_none, option_and_then, option_map, option_map_or, IfSome}
+use Rattle.std.specs.Option.{is_none, option_and_then, option_map, option_map_or, option_or, IfSome}
 use Rattle.naga_ir.specs.declared.types.Scalar.{Scalar}
 use Rattle.naga_ir.specs.declared.types.StructMember.{StructMember}
 use Rattle.naga_ir.specs.declared.types.Type_.{Type_}
@@ -15,11 +15,13 @@ use Rattle.naga_ir.specs.declared.types.TypeInner.TheVariants as inner
 use Rattle.wgsl_layout.proofs.Kept.{AllAligned, greatest_is, struct_kept}
 use Rattle.wgsl_layout.proofs.Rounding.{first_greatest, greater}
 use Rattle.wgsl_layout.specs.Capped.{IsAlignment, IsGreatest, capped, capped_member}
+use Rattle.wgsl_layout.specs.Faults.{first_fault, goes_on, own_fault}
 use Rattle.wgsl_layout.specs.Members.{are_kept, ended, greatest_placed, is_aligned, last_of}
 use Rattle.wgsl_layout.specs.Members.{stands_after, written_members}
 use Rattle.wgsl_layout.specs.Rules.{array_layout, matrix_layout, scalar_layout, stride_of, struct_layout, vector_layout}
 use Rattle.wgsl_layout.specs.declared.layouts.Layout.{Layout}
 use Rattle.wgsl_layout.specs.declared.layouts.Placed.{Placed}
+use Rattle.wgsl_layout.specs.declared.members.Misplaced.{Misplaced}
 use Rattle.naga_layout.proofs.Widths.{atomic_width_is, vector_aligns, width_aligns, width_is}
 use Rattle.naga_layout.specs.Capped.{left_from}
 use Rattle.naga_layout.specs.Types.{Rule, component_number, has_atomic_size, may_be_laid_out, has_size}
@@ -280,6 +282,40 @@ cell_aligned rule types h o is = subst IsAlignedIf (sym is) (by (layout_at rule 
     by (Some l) aligned = aligned
 
 -- ---- faults
+-- The next member is looked at: before and q are as the code holds them, b and p what they stand for.
+pub next_fault : (bound : Bool) (f : ℕ → Option Layout) (ms left : List StructMember) (k : StructMember)
+    (b : Option Placed) (found : Option Misplaced) (q : Placed) (before : Option Placed)
+    (whole own next : Option Misplaced) →
+    ms ≡ k ∷ left → before ≡ option_map capped_member b →
+    whole ≡ option_and_then (first_fault b found) (placed_members bound f ms) →
+    Some q ≡ option_map capped_member (placed_member bound f k) →
+    ((b : Option Placed) (p : Placed) → before ≡ option_map capped_member b → q ≡ capped_member p →
+    true ≡ goes_on b p) →
+    ((b : Option Placed) (p : Placed) → before ≡ option_map capped_member b → q ≡ capped_member p →
+    own ≡ own_fault b p) →
+    next ≡ option_or found own →
+    (x : Option Placed) × (Some q ≡ option_map capped_member x) ×
+    (whole ≡ option_and_then (first_fault x next) (placed_members bound f left))
+next_fault bound f ms left k b found q before whole own next at held is placed goes owns next_is =
+    let p = found_member (placed_member bound f k) q placed in (
+      Some p.0,
+      ap (λ q. Some q) p.2,
+      is
+      ∙ (ap (λ ms. option_and_then (first_fault b found) (placed_members bound f ms)) at
+      ∙ (ap (λ o. option_and_then (first_fault b found)
+      (option_and_then (λ p. option_map (λ ps. p ∷ ps) (placed_members bound f left)) o)) p.1
+      ∙ by p.0 b (placed_members bound f left) (goes b p.0 held p.2) (owns b p.0 held p.2))),
+    )
+  where
+    by : (p : Placed) (b : Option Placed) (os : Option (List Placed)) → true ≡ goes_on b p → own ≡ own_fault b p →
+        option_and_then (first_fault b found) (option_map (λ ps. p ∷ ps) os) ≡
+        option_and_then (first_fault (Some p) next) os
+    by p b None goes owns = refl
+    by p None (Some ps) goes owns =
+        ap (λ n. first_fault (Some p) n ps) (sym (next_is ∙ ap (option_or found) owns))
+    by p (Some b) (Some ps) goes owns =
+        ap (λ t. if t then first_fault (Some p) (option_or found (own_fault (Some b) p)) ps else None) (sym goes)
+        ∙ ap (λ n. first_fault (Some p) n ps) (sym (next_is ∙ ap (option_or found) owns))
 
 no_member : (o : Option Placed) → None ≡ option_map capped_member o → o ≡ None
 no_member None is = refl

@@ -221,13 +221,8 @@ impl ModuleTables {
         ensures { result ≡ option_and_then (first_fault None None)
             (placed_in «module».now members.now) }
     {
-        naga_layout::misplaced(
-            &module.types,
-            &self.undeclared,
-            module.keeps_bound_offsets,
-            &self.layouts,
-            members,
-        )
+        let bound = module.keeps_bound_offsets;
+        naga_layout::misplaced(&module.types, &self.undeclared, bound, &self.layouts, members)
     }
 
     /// Whether the module keeps the offsets of bound structs, and one of these members has a

@@ -79,7 +79,7 @@ class Layouts:
             (ty, number) in self.module.bindings or self.has_bindings(member) for number, (_, member) in enumerate(ty[1]))
 
     def is_concerned(self, ty):
-        """Whether the members' offsets are to be kept: with bindings they are where all can be."""
+        """Whether the members' offsets are to be kept: with bindings they are where that is asked for and all can be."""
         members = self.members(ty)
         if self.module.names_undeclared(ty) or not members:
             return False
@@ -87,7 +87,7 @@ class Layouts:
             return False
         if any(layout[1] is None for _, layout in members[:-1]):
             return False
-        return not self.has_bindings(ty) or not self.misplaced(ty)
+        return not self.has_bindings(ty) or self.module.keeps_bound_offsets and not self.misplaced(ty)
 
     def misplaced(self, ty):
         """What stands of members that can't be kept where they are."""

@@ -583,7 +583,7 @@ def layout(name):
     def planted(r, module):
         layouts, structs = Layouts(module), StructMaker(r, module)
         known = [module.types[h] for h in module.declared_structs()]
-        known = [ty for ty in known if layouts.is_concerned(ty) and not layouts.has_bindings(ty)]
+        known = [ty for ty in known if layouts.is_concerned(ty)]
         if known and r.random() < 0.6:
             ty = r.choice(known)
         else:
