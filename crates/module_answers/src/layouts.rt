@@ -51,11 +51,16 @@ pub fn lost_buffers(
         if !lost.is_empty() {
             let (names, _namer) = names_of(alloc, module)?;
             for handle in &lost {
-                buffers.push(name_in(alloc, &names, *handle)?)?;
+                add_name(&mut buffers, name_in(alloc, &names, *handle)?)?;
             }
         }
     }
     Ok(buffers)
+}
+
+fn add_name(buffers: &mut Vec<String>, name: String) -> Result<(), AllocError> {
+    buffers.push(name)?;
+    Ok(())
 }
 
 /// The name of a variable.
