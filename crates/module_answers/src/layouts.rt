@@ -2,6 +2,7 @@
 
 ghost use Rattle.std.specs.Prelude.{IfErr, IsTrue};
 ghost use Rattle.module_semantics.specs.acceptance.Accepted.{is_accepted};
+ghost use Rattle.module_semantics.specs.acceptance.Ranges.{parts_stand_before};
 ghost use Rattle.naga_wgsl_out.specs.ModuleRefusals.{IsNamesRefusal};
 
 use layout_texts::{has_bound_buffer, layouts_under, lost_layouts};
@@ -11,6 +12,7 @@ use naga_ir::{GlobalVariable, Handle, Module};
 use naga_naming::NameKey;
 use naga_wgsl_out::wgsl::names_of;
 use naga_wgsl_shared::Error;
+use serde_json::Value;
 use std::alloc::{AllocError, Global};
 use std::collections::HashMap;
 
@@ -42,35 +44,62 @@ pub fn lost_buffers(
     module: &Module,
     info: &ModuleInfo,
 ) -> Result<Vec<String>, Error> {
-    let mut buffers = Vec::new(alloc);
-    if !module.keeps_bound_offsets {
-        return Ok(buffers);
+    if !module.keeps_bound_offsets || !has_bound_buffer(alloc, module)? {
+        return Ok(Vec::new(alloc));
     }
-    if has_bound_buffer(alloc, module)? && unaccepted(module, info).is_none() {
-        let lost = lost_layouts(alloc, module)?;
-        if !lost.is_empty() {
-            let (names, _namer) = names_of(alloc, module)?;
-            for handle in &lost {
-                add_name(&mut buffers, name_in(alloc, &names, *handle)?)?;
-            }
-        }
+    match unaccepted(module, info) {
+        Some(_) => Ok(Vec::new(alloc)),
+        None => names_of_lost(alloc, module),
     }
+}
+
+/// The same of a module that is accepted, as a list in JSON: `["particles"]`.
+#[tactic(auto, using(module_semantics::proofs::Layouts::accepted_in_order))]
+pub fn lost_text(alloc: Global, module: &Module, info: &ModuleInfo) -> Result<String, Error>
+    requires accepted { IsTrue (is_accepted «module».now info.now) }
+    ensures err { IfErr result (IsNamesRefusal «module».now) }
+{
+    let buffers = names_of_lost(alloc, module)?;
+    let text = list_text(alloc, &buffers)?;
+    Ok(text)
+}
+
+/// The names of the buffers that are lost.
+fn names_of_lost(alloc: Global, module: &Module) -> Result<Vec<String>, Error>
+    requires ordered { IsTrue (parts_stand_before «module».now.types) }
+    ensures err { IfErr result (IsNamesRefusal «module».now) }
+{
+    let lost = lost_layouts(alloc, module)?;
+    if lost.is_empty() {
+        return Ok(Vec::new(alloc));
+    }
+    let (names, _namer) = names_of(alloc, module)?;
+    let buffers = names_in(alloc, &names, &lost)?;
     Ok(buffers)
 }
 
-fn add_name(buffers: &mut Vec<String>, name: String) -> Result<(), AllocError> {
-    buffers.push(name)?;
-    Ok(())
-}
-
-/// The name of a variable.
-fn name_in(
+/// The names of these variables.
+fn names_in(
     alloc: Global,
     names: &HashMap<NameKey, String>,
-    handle: Handle<GlobalVariable>,
-) -> Result<String, AllocError> {
-    match names.get(&NameKey::GlobalVariable(handle)) {
-        Some(name) => name.clone(),
-        None => Ok(String::new(alloc)),
+    variables: &[Handle<GlobalVariable>],
+) -> Result<Vec<String>, AllocError> {
+    let mut found = Vec::new(alloc);
+    for handle in variables {
+        let name = match names.get(&NameKey::GlobalVariable(*handle)) {
+            Some(name) => name.clone()?,
+            None => String::new(alloc),
+        };
+        found.push(name)?;
     }
+    Ok(found)
+}
+
+/// These names as a list in JSON.
+fn list_text(alloc: Global, names: &[String]) -> Result<String, AllocError> {
+    let mut list = Vec::new(alloc);
+    for name in names {
+        list.push(Value::try_from_str(alloc, name.as_str())?)?;
+    }
+    Value::Array(list).to_string(alloc)
 }
