@@ -15,8 +15,8 @@
 -- of a member, ks are the members of a struct as the module places them, bindings says whether they
 -- may be left out for the bindings among them, span is how many bytes the module gives to a struct,
 -- and structs are those of a text.
-use Rattle.std.specs.Prelude.{◌≡◌, ◌&&◌, ◌||◌, ℕ, Bool, List, map, not, false, Option, Some, None}
-use Rattle.std.specs.Prelude.{IsTrue, IsFalse, if◌then◌else◌, slice_get}
+use Rattle.std.specs.Prelude.{◌≡◌, ◌&&◌, ◌||◌, ℕ, Bool, true, false, List, map, not, Option}
+use Rattle.std.specs.Prelude.{Some, None, IsTrue, IsFalse, if◌then◌else◌, slice_get}
 use Rattle.std.specs.Option.{option_and_then, option_map_or}
 use Rattle.naga_ir.specs.declared.module.Module.{Module}
 use Rattle.naga_ir.specs.declared.types.StructMember.{StructMember}
@@ -115,6 +115,17 @@ pub record HasOtherStride (m : Module) (h ty : ℕ) : Type 0 where
   pub there : slice_get (members_of whole.inner) number ≡ Some member
   pub is : member.ty ≡ ty
   pub other : IsFalse (arrays_are_kept (module_rule m) m.types ty)
+
+-- A module that keeps the offsets of bound structs is refused for none that it would not be refused
+-- for else.
+abbrev pub keeping_bound : (keeps : Bool) → Module → Module
+keeping_bound keeps m = record m { keeps_bound_offsets = keeps }
+
+pub record NoneIsRefusedForBindings (m : Module) : Type 0 where
+  pub misplaced : (h : ℕ) (fault : Misplaced) → IsMisplaced (keeping_bound true m) h fault →
+      IsMisplaced (keeping_bound false m) h fault
+  pub strides : (h ty : ℕ) → HasOtherStride (keeping_bound true m) h ty →
+      HasOtherStride (keeping_bound false m) h ty
 
 -- ---- what is promised of a text
 -- WGSL's rules, applied to the structs of a text alone, leave the members of the struct of this

@@ -50,7 +50,7 @@ module _ (types : List Type_) (order : StandInOrder types) where
   stable (suc n) (suc m) h p q =
       found n m h (slice_get types h) refl (λ k lt. stable n m k (omega arith) (omega arith))
 
-  bindings_are : (h : ℕ) (t : Type_) → slice_get types h ≡ Some t →
+  pub bindings_are : (h : ℕ) (t : Type_) → slice_get types h ≡ Some t →
       has_bindings types h ≡ has_bindings_by (has_bindings types) t.inner
   unfolding has_bindings
   bindings_are h t is =
