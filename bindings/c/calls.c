@@ -9,6 +9,8 @@ uint32_t proved_yorwethul_check(const uint8_t *json, size_t json_length, uint8_t
                                 size_t *needed);
 uint32_t proved_yorwethul_layout(const uint8_t *json, size_t json_length, uint32_t flags, uint8_t *out,
                                  size_t out_length, size_t *needed);
+uint32_t proved_yorwethul_lost_layouts(const uint8_t *json, size_t json_length, uint32_t flags, uint8_t *out,
+                                       size_t out_length, size_t *needed);
 uint32_t proved_yorwethul_names(const uint8_t *json, size_t json_length, uint32_t flags, uint8_t *out,
                                 size_t out_length, size_t *needed);
 uint32_t proved_yorwethul_version(void);
@@ -31,6 +33,12 @@ uint32_t yorwethul_layout(const uint8_t *json, size_t json_length, uint32_t flag
                           size_t *needed) {
     return proved_yorwethul_layout(BYTES(json, json_length), json_length, flags, BYTES(out, out_length), out_length,
                                    needed);
+}
+
+uint32_t yorwethul_lost_layouts(const uint8_t *json, size_t json_length, uint32_t flags, uint8_t *out, size_t out_length,
+                                size_t *needed) {
+    return proved_yorwethul_lost_layouts(BYTES(json, json_length), json_length, flags, BYTES(out, out_length), out_length,
+                                         needed);
 }
 
 uint32_t yorwethul_names(const uint8_t *json, size_t json_length, uint32_t flags, uint8_t *out, size_t out_length,

@@ -44,9 +44,10 @@ enum yorwethul_status {
 #define YORWETHUL_PORTABLE 2u       /* the text has what standard compilers ask for, as `enable subgroups;` and `let`s for
                                      * operands that stand too deep, and begins with the directives of the module's
                                      * filters of diagnostics */
-#define YORWETHUL_DECIMAL_FLOATS 4u /* floats are written, by the digits that Rust gives them, operators in constants too, and
-                                     * names may end in digits, as pass2; else F32, F64 and F16 and such operators are
-                                     * refused, and such a name is pass2_ */
+#define YORWETHUL_DECIMAL_FLOATS 4u /* floats are written, by the digits that Rust gives them, operators in constants too,
+                                     * names may end in digits, as pass2, and structs with bindings keep their offsets;
+                                     * else F32, F64 and F16 and such operators are refused, such a name is pass2_, and
+                                     * bindings have no sizes beside them */
 
 /* Each call gives a status. *needed is how many bytes its text has: what was asked for, or why it is not there, in
  * UTF-8, with no 0 after it. If out_length is enough for it, the text stands at the front of out. Else out is as it
@@ -60,6 +61,12 @@ uint32_t yorwethul_check(const uint8_t *json, size_t json_length,
 /* Where the members of the structs stand, under the names of the text that the module has under these flags. */
 uint32_t yorwethul_layout(const uint8_t *json, size_t json_length, uint32_t flags,
                           uint8_t *out, size_t out_length, size_t *needed);
+
+/* Which buffers the text that the module has under these flags lays out otherwise than the module does, though it is
+ * written: a list of their identifiers in that text, as JSON, ["particles"]. Each holds a struct with bindings of which
+ * the offsets can't be kept. None are told without YORWETHUL_DECIMAL_FLOATS. */
+uint32_t yorwethul_lost_layouts(const uint8_t *json, size_t json_length, uint32_t flags,
+                                uint8_t *out, size_t out_length, size_t *needed);
 
 /* Which identifier of the text that the module has under these flags stands for which item of it: one line of JSON,
  * {"constants": [..], "entry_points": [..], "functions": [..], "globals": [..], "overrides": [..], "structs": [..]},

@@ -26,7 +26,7 @@ import sys
 from pathlib import Path
 from typing import Any
 
-__all__ = ["Error", "Flags", "Library", "Status", "check", "layout", "names", "write"]
+__all__ = ["Error", "Flags", "Library", "Status", "check", "layout", "lost_layouts", "names", "write"]
 
 
 class Status(enum.IntEnum):
@@ -72,7 +72,8 @@ class Library:
         self._calls = ctypes.CDLL(os.fspath(path) if path else find_library())
         text = [ctypes.c_void_p, ctypes.c_size_t, ctypes.POINTER(ctypes.c_size_t)]
         flags_alone = [ctypes.c_uint32]
-        for name, flags in (("write", flags_alone), ("check", []), ("layout", flags_alone), ("names", flags_alone)):
+        flags_of = {"write": flags_alone, "check": [], **dict.fromkeys(("layout", "lost_layouts", "names"), flags_alone)}
+        for name, flags in flags_of.items():
             call = getattr(self._calls, f"yorwethul_{name}")
             call.argtypes = [ctypes.c_char_p, ctypes.c_size_t, *flags, *text]
             call.restype = ctypes.c_uint32
@@ -88,6 +89,10 @@ class Library:
     def layout(self, json: str | bytes, flags: Flags | int = Flags.DEFAULT) -> str:
         """A line for each struct and each member: where it stands in memory, under the names of the text by these flags."""
         return self._call("layout", json, int(flags))
+
+    def lost_layouts(self, json: str | bytes, flags: Flags | int = Flags.DEFAULT) -> list[str]:
+        """The identifiers of the buffers that the text by these flags lays out otherwise than the module does."""
+        return json_texts.loads(self._call("lost_layouts", json, int(flags)))
 
     def names(self, json: str | bytes, flags: Flags | int = Flags.DEFAULT) -> dict[str, list[dict[str, Any]]]:
         """Which identifier of the text by these flags stands for which item: for each kind of item a list, of which each
@@ -138,6 +143,11 @@ def check(json: str | bytes) -> None:
 def layout(json: str | bytes, flags: Flags | int = Flags.DEFAULT) -> str:
     """As Library.layout."""
     return _library().layout(json, flags)
+
+
+def lost_layouts(json: str | bytes, flags: Flags | int = Flags.DEFAULT) -> list[str]:
+    """As Library.lost_layouts."""
+    return _library().lost_layouts(json, flags)
 
 
 def names(json: str | bytes, flags: Flags | int = Flags.DEFAULT) -> dict[str, list[dict[str, Any]]]:

@@ -49,9 +49,10 @@ void __wrap_free(void *block) {
 
 /* ---- calls */
 
-enum call { WRITE, WRITE_EXPLICIT, WRITE_ALL_FLAGS, CHECK, LAYOUT, NAMES, CALLS };
+enum call { WRITE, WRITE_EXPLICIT, WRITE_ALL_FLAGS, CHECK, LAYOUT, LOST, NAMES, CALLS };
 static const char *const names[CALLS] = {"write", "write with types", "write with all flags",
-                                         "check", "layout", "names"};
+                                         "check", "layout", "lost layouts",
+                                         "names"};
 static const uint32_t all_flags =
     YORWETHUL_EXPLICIT_TYPES | YORWETHUL_PORTABLE | YORWETHUL_DECIMAL_FLOATS;
 
@@ -74,6 +75,9 @@ static struct answer call(enum call which, const uint8_t *json, size_t length, u
         break;
     case CHECK: it.status = yorwethul_check(json, length, out, room, &it.needed); break;
     case LAYOUT: it.status = yorwethul_layout(json, length, all_flags, out, room, &it.needed); break;
+    case LOST:
+        it.status = yorwethul_lost_layouts(json, length, all_flags, out, room, &it.needed);
+        break;
     default: it.status = yorwethul_names(json, length, all_flags, out, room, &it.needed); break;
     }
     is_counted = 0;

@@ -43,6 +43,11 @@ uint32_t yorwethul_layout(const uint8_t *json, size_t json_length, uint32_t flag
     return answer(json, json_length, flags, out, out_length, needed);
 }
 
+uint32_t yorwethul_lost_layouts(const uint8_t *json, size_t json_length, uint32_t flags, uint8_t *out,
+                                size_t out_length, size_t *needed) {
+    return answer(json, json_length, flags, out, out_length, needed);
+}
+
 uint32_t yorwethul_names(const uint8_t *json, size_t json_length, uint32_t flags, uint8_t *out,
                          size_t out_length, size_t *needed) {
     return answer(json, json_length, flags, out, out_length, needed);

@@ -59,6 +59,12 @@ STRUCT_LAYOUT = "struct One: align 4, size 4\n    a: u32, offset 0, align 4, siz
 # A struct whose label ends in a digit, which the text keeps where floats are decimal.
 DIGITS = STRUCT.replace(b"One", b"Light2")
 DIGITS_LAYOUT = STRUCT_LAYOUT.replace("One", "{}")
+# A buffer of a struct with bindings of which the offsets can't be kept.
+MOTES = (b'{"module":{"types":[{"inner":{"Scalar":{"kind":"Uint","width":4}}},{"name":"Mote","inner":{"Struct":{"span":12,"members":['
+         b'{"name":"a","ty":0,"binding":{"Location":{"location":0}},"offset":0},'
+         b'{"name":"b","ty":0,"binding":{"Location":{"location":1}},"offset":6}]}}},'
+         b'{"inner":{"Array":{"base":1,"size":"Dynamic","stride":12}}}],"global_variables":[{"name":"motes",'
+         b'"space":{"Storage":{"access":"LOAD"}},"ty":2,"binding":{"group":0,"binding":0}}]},"info":{}}')
 DOUBLE_TEXT = "fn double(x: i32) -> i32 {\n    return (x + x);\n}\n\n"
 DOUBLE_NAMES = ('{"constants":[],"entry_points":[],"functions":[{"handle":0,"identifier":"double","label":"double"}],'
                 '"globals":[],"overrides":[],"structs":[]}')
@@ -128,6 +134,12 @@ CALLS = [
     ("layout", [0], DIGITS, DONE, DIGITS_LAYOUT.format("Light2_")),
     ("layout", [ALL_FLAGS], DIGITS, DONE, DIGITS_LAYOUT.format("Light2")),
     ("layout", [0], b'{"info":{}}', NO_MODULE, "module: missing"),
+    ("lost_layouts", [0], STRUCT, DONE, "[]"),
+    ("lost_layouts", [0], MOTES, DONE, "[]"),
+    ("lost_layouts", [DECIMAL_FLOATS], MOTES, DONE, '["motes"]'),
+    ("lost_layouts", [ALL_FLAGS + 1], MOTES, UNKNOWN_FLAG, "a bit is set that no flag has"),
+    ("lost_layouts", [0], UNTYPED, NOT_ACCEPTED, OWN_OPERAND.removeprefix("module.") + "it has no type"),
+    ("lost_layouts", [0], b'{"info":{}}', NO_MODULE, "module: missing"),
     ("names", [0], "double", DONE, DOUBLE_NAMES),
     ("names", [ALL_FLAGS], "double", DONE, DOUBLE_NAMES),
     ("names", [ALL_FLAGS + 1], "double", UNKNOWN_FLAG, "a bit is set that no flag has"),
@@ -237,6 +249,7 @@ def test_python(room):
         must(library.write("0 1 abc", flags) == "abc" * (1 + flags), f"the flags {flags} are not asked for")
     must(library.write(b"0 200 abc") == "abc" * (200 + yorwethul.Flags.DEFAULT), "a long text is not whole")
     must(library.layout("0 2 x", 0) == "xx" and library.layout("0 2 x") == "x" * (2 + yorwethul.Flags.DEFAULT), "layouts are asked for by other flags")
+    must(library.lost_layouts("0 1 1", 0) == 1 and library.lost_layouts("0 1 1", PORTABLE) == 111, "lost layouts are asked for by other flags")
     must(library.check("0 1 x") is None, "another call is made")
     must(library.names("0 1 1", PORTABLE) == 111 and library.names("0 1 1") == 1_111_111, "names are asked for by other flags")
     for order, status, shown in (("2 1 wrong", NOT_ACCEPTED, "not accepted: wrong"), ("5 0 ", OUT_OF_MEMORY, "out of memory"), ("9 1 odd", 9, "status 9: odd")):
@@ -412,7 +425,7 @@ def test_calls(folder, _):
 def test_own_calls(calls):
     """What is not proved but C: null pointers with a length of 0, names of statuses, limits."""
     needed = ctypes.c_size_t(77)
-    for name, flags in (("write", [0]), ("check", []), ("layout", [0])):
+    for name, flags in (("write", [0]), ("check", []), ("layout", [0]), ("lost_layouts", [0])):
         call = getattr(calls, f"yorwethul_{name}")
         told = call(None, ctypes.c_size_t(0), *map(ctypes.c_uint32, flags), None, ctypes.c_size_t(0), ctypes.byref(needed))
         must((told, needed.value) == (NO_MODULE, len("no JSON at line 1, column 0")), f"{name} of nothing: {told}, {needed.value}")
@@ -587,7 +600,7 @@ def test_memory(folder, _):
     library = Library(folder / "libyorwethul.so")
     for example in EXAMPLES:
         data = example.read_bytes()
-        for name, flags in (("write", [0]), ("write", [ALL_FLAGS]), ("layout", [0]), ("layout", [ALL_FLAGS]), ("names", [0]), ("names", [ALL_FLAGS]), ("check", [])):
+        for name, flags in (("write", [0]), ("write", [ALL_FLAGS]), ("layout", [0]), ("layout", [ALL_FLAGS]), ("lost_layouts", [ALL_FLAGS]), ("names", [0]), ("names", [ALL_FLAGS]), ("check", [])):
             status, text = library.call(name, data, *flags)
             length = len(text.encode())
             must(library.call(name, data, *flags, room=length) == (status, text), f"{name} of {example.name} with just enough")
@@ -602,13 +615,13 @@ def test_depth(folder, _):
         (b"[" * 128, TOO_DEEP), (b'{"a":' * 500_000, TOO_DEEP), (b"[" * 127, NO_MODULE), (b'["' + b"[" * 500 + b'"', NO_MODULE),
         (b'{"module": {}, "info": {}, "x": ' + b"[" * 126 + b"]" * 126 + b"}", DONE), (b"\xff", NO_MODULE), (b"", NO_MODULE), (b"\0" * 300, NO_MODULE),
     ):
-        for name, flags in (("write", [0]), ("check", []), ("layout", [0]), ("names", [0])):
+        for name, flags in (("write", [0]), ("check", []), ("layout", [0]), ("lost_layouts", [0]), ("names", [0])):
             told = library.call(name, data, *flags)
             must(told[0] == wanted, f"{name}: {told} of {data[:40]}")
     for kind in KINDS:
         for depth in (DEEPEST_NESTING + 1, DEEPEST_NESTING + 2, 100_000):
             data = nested(kind, depth).encode()
-            for name, flags in (("write", [0]), ("check", []), ("layout", [0]), ("names", [0])):
+            for name, flags in (("write", [0]), ("check", []), ("layout", [0]), ("lost_layouts", [0]), ("names", [0])):
                 told = library.call(name, data, *flags)
                 is_deep = levels(kind, depth) > DEEPEST_NESTING
                 is_told = told[0] == TOO_DEEP and told[1].startswith("nested too deep: ")

@@ -179,6 +179,30 @@ fn laid_out(json: &str, flags: Flags) -> Result<String, Error> {
     })
 }
 
+/// Tells which buffers the text that the module has under these flags lays out otherwise than the module
+/// does, as JSON in one line ([`yorwethul::lost_layouts_json`]), on a thread of its own where [`write`]
+/// takes one.
+///
+/// # Panics
+///
+/// As [`write`].
+pub fn lost_layouts(module: &Module, info: &ModuleInfo, flags: Flags) -> Result<String, Error> {
+    lost(&json(module, info)?, flags)
+}
+
+/// Tells the same of a module alone.
+pub fn lost_layouts_module(module: &Module, flags: Flags) -> Result<String, Error> {
+    lost(&module_json(module)?, flags)
+}
+
+fn lost(json: &str, flags: Flags) -> Result<String, Error> {
+    Ok(if json.len() <= LONGEST_HERE {
+        yorwethul::lost_layouts_json(json, flags)?
+    } else {
+        yorwethul::lost_layouts_json_on_thread(json, flags)?
+    })
+}
+
 /// Tells which identifier of the text that the module has under these flags stands for which item of it, as
 /// JSON in one line ([`yorwethul::names_json`]), on a thread of its own where [`write`] takes one.
 ///

@@ -178,6 +178,34 @@ pub fn layout_json(json: &str, flags: Flags) -> Result<String, Error> {
     })
 }
 
+/// Tells which buffers the text that the module has under these flags lays out otherwise than the module
+/// does, though it is written: a list of their identifiers in that text, as JSON in one line. Each holds
+/// a struct with bindings of which the offsets can't be kept. None are told without
+/// [`Flags::DECIMAL_FLOATS`].
+///
+/// Deep operands take much stack: see [`lost_layouts_json_on_thread`].
+///
+/// ```
+/// let told = yorwethul::lost_layouts_json(r#"{"module": {}}"#, yorwethul::Flags::default())?;
+/// assert_eq!(told, "[]");
+/// # Ok::<(), yorwethul::Error>(())
+/// ```
+pub fn lost_layouts_json(json: &str, flags: Flags) -> Result<String, Error> {
+    text_of(json.len(), |out, needed| {
+        // SAFETY: as in `write_json`.
+        unsafe {
+            sys::yorwethul_lost_layouts(
+                json.as_ptr(),
+                json.len(),
+                flags.bits(),
+                out.as_mut_ptr(),
+                out.len(),
+                needed,
+            )
+        }
+    })
+}
+
 /// Tells which identifier of the text that the module has under these flags stands for which item of it,
 /// as JSON in one line. It asks whether the module is accepted, and not whether it has a text.
 ///
@@ -226,6 +254,12 @@ pub fn check_json_on_thread(json: &str) -> Result<(), Error> {
 #[cfg(feature = "std")]
 pub fn layout_json_on_thread(json: &str, flags: Flags) -> Result<String, Error> {
     on_thread(json, || layout_json(json, flags))
+}
+
+/// [`lost_layouts_json`] on a thread of its own, whose stack is enough for the JSON.
+#[cfg(feature = "std")]
+pub fn lost_layouts_json_on_thread(json: &str, flags: Flags) -> Result<String, Error> {
+    on_thread(json, || lost_layouts_json(json, flags))
 }
 
 /// [`names_json`] on a thread of its own, whose stack is enough for the JSON.

@@ -24,6 +24,14 @@ extern "C" {
         out_length: usize,
         needed: *mut usize,
     ) -> u32;
+    pub fn yorwethul_lost_layouts(
+        json: *const u8,
+        json_length: usize,
+        flags: u32,
+        out: *mut u8,
+        out_length: usize,
+        needed: *mut usize,
+    ) -> u32;
     pub fn yorwethul_names(
         json: *const u8,
         json_length: usize,

@@ -1,9 +1,12 @@
 //! What the calls give, by the archive.
 
 use std::thread;
-use yorwethul::{check_json, layout_json, library_version, names_json, stack_size, write_json, STACK};
 use yorwethul::{
-    check_json_on_thread, layout_json_on_thread, names_json_on_thread, write_json_on_thread,
+    check_json, layout_json, library_version, lost_layouts_json, names_json, stack_size, write_json, STACK,
+};
+use yorwethul::{
+    check_json_on_thread, layout_json_on_thread, lost_layouts_json_on_thread, names_json_on_thread,
+    write_json_on_thread,
 };
 use yorwethul::{Construct, Error, Flags, Item};
 
@@ -57,6 +60,7 @@ fn a_module_is_written() {
     assert_eq!(write_json(DOUBLE, Flags::EXPLICIT_TYPES), Ok(explicit));
     assert_eq!(check_json(DOUBLE), Ok(()));
     assert_eq!(layout_json(DOUBLE, Flags::default()).as_deref(), Ok(""));
+    assert_eq!(lost_layouts_json(DOUBLE, Flags::default()).as_deref(), Ok("[]"));
     assert_eq!(names_json(DOUBLE, Flags::empty()).as_deref(), Ok(NAMES));
 }
 
@@ -249,6 +253,7 @@ fn deep_operands_take_a_stack() {
     assert_eq!(text.matches("-(").count(), 3_999);
     assert_eq!(check_json_on_thread(&json), Ok(()));
     assert_eq!(layout_json_on_thread(&json, Flags::default()).as_deref(), Ok(""));
+    assert_eq!(lost_layouts_json_on_thread(&json, Flags::default()).as_deref(), Ok("[]"));
     let names = names_json_on_thread(&json, Flags::empty()).unwrap();
     assert_eq!(names, NAMES.replace("double", "deep"));
     assert!(stack_size(&json) <= STACK);

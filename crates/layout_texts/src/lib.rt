@@ -2,14 +2,19 @@
 //! struct has no layout. Names are the caller's, so that it needs no writer.
 #![tactic(auto)]
 
+mod lost;
+
 ghost use Rattle.std.specs.Prelude.{IsTrue};
 ghost use Rattle.module_semantics.specs.acceptance.Ranges.{parts_stand_before};
 ghost use Rattle.naga_naming.specs.Keys.{names_in};
 ghost use Rattle.naga_spelling.specs.Contexts.{names_context};
 ghost use Rattle.naga_spelling.specs.Spelling.{IsInOrder};
 
+pub use lost::{has_bound_buffer, lost_layouts};
+
+use crate::lost::{bindings_in, loses_layout};
 use naga_ir::{Handle, Module, SpecialTypes, StructMember, Type_, TypeInner, UniqueArena};
-use naga_layout::{TypeLayout, type_layout};
+use naga_layout::{TypeLayout, layout_told};
 use naga_naming::NameKey;
 use naga_words::types::types_in_order;
 use naga_words::{SinkError, TypeContext, TypeTextError, WriterTypeContext};
@@ -18,8 +23,8 @@ use std::collections::HashMap;
 use std::fmt;
 use std::fmt::Display;
 
-/// The structs that a text declares, each with a line for each member, and the variables whose arrays
-/// don't keep their strides, under these names.
+/// The structs that a text declares, each with a line for each member, the variables whose arrays
+/// don't keep their strides, and the buffers that [`lost_layouts`] tells, under these names.
 pub fn layouts_under(
     alloc: Global,
     module: &Module,
@@ -30,6 +35,7 @@ pub fn layouts_under(
     let mut text = String::new(alloc);
     push_structs(alloc, module, names, &mut text)?;
     push_variables(alloc, module, names, &mut text)?;
+    push_lost(alloc, module, names, &mut text)?;
     Ok(text)
 }
 
@@ -62,15 +68,44 @@ fn push_variables(
 ) -> Result<(), AllocError>
     requires ordered { IsTrue (parts_stand_before «module».now.types) }
 {
-    let spelling = types_in_order(&module.types, module.overrides.len());
+    let types = &module.types;
+    let spelling = types_in_order(types, module.overrides.len());
     for (handle, variable) in module.global_variables.iter() {
-        if let Some((stride, wgsl)) = other_stride(&module.types, variable.ty) {
+        if let Some((stride, wgsl)) = other_stride(types, module.keeps_bound_offsets, variable.ty) {
             let ty = type_text(alloc, module, names, spelling, variable.ty)?;
             let line = VariableLine {
                 name: name_in(names, &NameKey::GlobalVariable(handle)),
                 ty: ty.as_str(),
                 stride,
                 wgsl,
+            };
+            push_line(alloc, line, text)?;
+        }
+    }
+    Ok(())
+}
+
+/// A line for each buffer that holds a struct with bindings and is not laid out as in the module, where
+/// that keeps the offsets of bound structs.
+fn push_lost(
+    alloc: Global,
+    module: &Module,
+    names: &HashMap<NameKey, String>,
+    text: &mut String,
+) -> Result<(), AllocError>
+    requires ordered { IsTrue (parts_stand_before «module».now.types) }
+{
+    if !module.keeps_bound_offsets {
+        return Ok(());
+    }
+    let spelling = types_in_order(&module.types, module.overrides.len());
+    let marks = bindings_in(alloc, &module.types)?;
+    for (handle, variable) in module.global_variables.iter() {
+        if loses_layout(&module.types, &marks, variable) {
+            let ty = type_text(alloc, module, names, spelling, variable.ty)?;
+            let line = LostLine {
+                name: name_in(names, &NameKey::GlobalVariable(handle)),
+                ty: ty.as_str(),
             };
             push_line(alloc, line, text)?;
         }
@@ -130,9 +165,10 @@ fn push_struct(
         (names_in names.now)) }
 {
     let types = &module.types;
+    let bound = module.keeps_bound_offsets;
     let head = StructLine {
         name: name_in(names, &NameKey::Type_(handle)),
-        layout: layout_of(types, handle),
+        layout: layout_of(types, bound, handle),
         span,
     };
     push_line(alloc, head, text)?;
@@ -140,11 +176,12 @@ fn push_struct(
     // a module with more members than that has no names
     let mut number: u32 = 0;
     for member in members {
-        let found = found_of(types, member);
+        let found = found_of(types, bound, member);
         let ty = type_text(alloc, module, names, spelling, member.ty)?;
         let line = MemberLine {
             name: name_in(names, &NameKey::StructMember(handle, number)),
             ty: ty.as_str(),
+            is_bound: member.binding.is_some(),
             offset: member.offset,
             found,
             fault: fault_of(before, member.offset, found),
@@ -189,16 +226,17 @@ enum Found {
     Unlaid,
 }
 
-fn found_of(types: &UniqueArena<Type_>, member: &StructMember) -> Found
+/// What is known where `bound` says whether members with bindings are laid out.
+fn found_of(types: &UniqueArena<Type_>, bound: bool, member: &StructMember) -> Found
     requires ordered { IsTrue (parts_stand_before types.now) }
 {
-    if member.binding.is_some() {
+    if !bound && member.binding.is_some() {
         return Found::HasBinding;
     }
-    if let Some(layout) = layout_of(types, member.ty) {
+    if let Some(layout) = layout_of(types, bound, member.ty) {
         return Found::Laid(layout);
     }
-    match other_stride(types, member.ty) {
+    match other_stride(types, bound, member.ty) {
         Some((stride, wgsl)) => Found::Strided(stride, wgsl),
         None => Found::Unlaid,
     }
@@ -206,11 +244,11 @@ fn found_of(types: &UniqueArena<Type_>, member: &StructMember) -> Found
 
 /// The layout of the type with this handle, if it is one of these types and has one.
 #[tactic(auto, using(module_semantics::proofs::Layouts::stand_in_order))]
-fn layout_of(types: &UniqueArena<Type_>, ty: Handle<Type_>) -> Option<TypeLayout>
+fn layout_of(types: &UniqueArena<Type_>, bound: bool, ty: Handle<Type_>) -> Option<TypeLayout>
     requires ordered { IsTrue (parts_stand_before types.now) }
 {
     if ty.index() < types.len() {
-        type_layout(types, ty)
+        layout_told(types, ty, bound)
     } else {
         None
     }
@@ -218,7 +256,7 @@ fn layout_of(types: &UniqueArena<Type_>, ty: Handle<Type_>) -> Option<TypeLayout
 
 /// The stride of the first array, from a type on through the elements of arrays, whose elements
 /// WGSL has begin at another distance, and that distance.
-fn other_stride(types: &UniqueArena<Type_>, ty: Handle<Type_>) -> Option<(u32, u64)>
+fn other_stride(types: &UniqueArena<Type_>, bound: bool, ty: Handle<Type_>) -> Option<(u32, u64)>
     requires ordered { IsTrue (parts_stand_before types.now) }
 {
     let mut at = ty;
@@ -226,7 +264,7 @@ fn other_stride(types: &UniqueArena<Type_>, ty: Handle<Type_>) -> Option<(u32, u
         let Some((base, stride)) = array_at(types, at) else {
             return None;
         };
-        if let Some(wgsl) = wgsl_stride(types, base) {
+        if let Some(wgsl) = wgsl_stride(types, bound, base) {
             if wgsl != stride as u64 {
                 return Some((stride, wgsl));
             }
@@ -249,10 +287,10 @@ fn array_at(types: &UniqueArena<Type_>, ty: Handle<Type_>) -> Option<(Handle<Typ
 }
 
 /// The distance at which WGSL has elements of a type begin, if they have a layout and a size.
-fn wgsl_stride(types: &UniqueArena<Type_>, base: Handle<Type_>) -> Option<u64>
+fn wgsl_stride(types: &UniqueArena<Type_>, bound: bool, base: Handle<Type_>) -> Option<u64>
     requires ordered { IsTrue (parts_stand_before types.now) }
 {
-    let layout = layout_of(types, base)?;
+    let layout = layout_of(types, bound, base)?;
     let size = layout.size? as u64;
     let alignment = layout.align as u64;
     if alignment == 0 {
@@ -399,9 +437,22 @@ impl fmt::Display for VariableLine<'_> {
 }
 
 #[derive(Clone, Copy)]
+struct LostLine<'a> {
+    name: &'a str,
+    ty: &'a str,
+}
+
+impl fmt::Display for LostLine<'_> {
+    fn fmt<W: fmt::Write>(&self, f: &mut fmt::Formatter<W>) -> fmt::Result {
+        write!(f, "{}: {}, not laid out as in the module", self.name, self.ty)
+    }
+}
+
+#[derive(Clone, Copy)]
 struct MemberLine<'a> {
     name: &'a str,
     ty: &'a str,
+    is_bound: bool,
     offset: u32,
     found: Found,
     fault: Option<&'static str>,
@@ -413,6 +464,9 @@ impl fmt::Display for MemberLine<'_> {
         write!(f, "    {}: {}, ", self.name, self.ty)?;
         if let Found::HasBinding = self.found {
             return f.write_str("has a binding");
+        }
+        if self.is_bound {
+            f.write_str("has a binding, ")?;
         }
         write!(f, "offset {}", self.offset)?;
         match self.found {

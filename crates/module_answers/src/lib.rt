@@ -12,7 +12,7 @@ mod shaders;
 mod within;
 mod writing;
 
-pub use layouts::layout_table;
+pub use layouts::{layout_table, lost_buffers, lost_text};
 pub use names::{name_as_standard, names_text, names_value};
 pub use opening::{UNNAMED_RULE, filter_position, rule_name_line};
 pub use refusals::refusal_line;

@@ -7,7 +7,7 @@ ghost use Rattle.name_maps.specs.NameMaps.{map_text, name_map};
 ghost use Rattle.serde_json.specs.View.{view};
 ghost use Rattle.module_answers.specs.StandardNames.{named_as};
 
-use decimal_floats::keep_digits;
+use decimal_floats::{keep_bound_offsets, keep_digits};
 use naga_ir::Module;
 use naga_wgsl_out::wgsl::names_of;
 use naga_wgsl_shared::Error;
@@ -43,12 +43,14 @@ pub fn names_text(alloc: Global, module: &Module) -> Result<String, Error>
 }
 
 /// Where a standard text is meant, lets the names of the module be those of it, which keep the digits
-/// of their labels ([`keep_digits`]); else leaves the module as it is. Where names alone are asked
-/// for, this is set here and nowhere else, as [`write_decimal`](crate::write_decimal) sets it of a text.
+/// of their labels ([`keep_digits`]), and its layouts too ([`keep_bound_offsets`]); else leaves the
+/// module as it is. Where names or layouts alone are asked for, this is set here and nowhere else, as
+/// [`write_decimal`](crate::write_decimal) sets it of a text.
 pub fn name_as_standard(module: &mut Module, is_standard: bool)
     ensures { «module».new ≡ named_as is_standard «module».old }
 {
     if is_standard {
         keep_digits(module);
+        keep_bound_offsets(module);
     }
 }

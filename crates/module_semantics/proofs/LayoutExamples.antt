@@ -2,8 +2,8 @@
 -- computed: which are concerned, what is written, what stands against them, and texts that keep them.
 use Rattle.std.proofs.Common.{◌≡◌, ℕ, Bool, false, true, List, [], ◌∷◌, None, Option, Some, refl}
 use Rattle.std.proofs.Common.{arith, map, Global, Vec}
-use Rattle.std.specs.Prelude.{codes}
-use Rattle.std.specs.Option.{is_none, option_map, option_map_or}
+use Rattle.std.specs.Prelude.{codes, if◌then◌else◌}
+use Rattle.std.specs.Option.{is_none, option_and_then, option_map, option_map_or}
 use Rattle.indexmap.specs.IndexMap.{with_entries}
 use Rattle.naga_ir.specs.declared.binding.Binding.TheVariants as binding
 use Rattle.naga_ir.specs.declared.binding.BuiltIn.TheVariants as builtin
@@ -15,15 +15,20 @@ use Rattle.naga_ir.specs.declared.types.Type_.{Type_}
 use Rattle.naga_ir.specs.declared.types.TypeInner.{TypeInner}
 use Rattle.naga_ir.specs.declared.types.TypeInner.TheVariants as inner
 use Rattle.naga_ir.specs.declared.types.VectorSize.TheVariants as vector
-use Rattle.naga_layout.specs.Types.{arrays_are_kept, layout_at}
-use Rattle.wgsl_layout.specs.Members.{is_off_alignment, overlaps}
+use Rattle.naga_layout.specs.Bindings.{has_bindings}
+use Rattle.naga_layout.specs.Types.{arrays_are_kept, layout_at, placed_member, placed_members}
+use Rattle.naga_naming.specs.Reset.{members_of}
+use Rattle.wgsl_layout.specs.Members.{is_concerned, is_off_alignment, overlaps}
+use Rattle.wgsl_layout.specs.declared.layouts.Layout.{Layout}
 use Rattle.wgsl_layout.specs.declared.layouts.Placed.{Placed}
 use Rattle.wgsl_text.specs.Attributes.{Attribute, Numbered, Size}
 use Rattle.wgsl_text.specs.Declarations.{Struct}
 use Rattle.wgsl_text.specs.Types.{SizeArgument, Template, TypeArgument, NoTemplateArguments}
 use Rattle.wgsl_text.specs.WorkedTrees as worked
 use Rattle.text_semantics.specs.Layout.{offsets_read, size_of_struct_read, struct_layout_read}
-use Rattle.module_semantics.specs.Layouts.{concerned_members, module_rule, span_at, written_size}
+use Rattle.module_semantics.specs.Layouts.{concerned_members, concerned_of, layout_in, module_rule}
+use Rattle.module_semantics.specs.Layouts.{span_at, written_size}
+use Rattle.module_semantics.specs.Undeclared.{is_declared}
 use Rattle.module_semantics.proofs.InterfaceExamples.{two}
 use Rattle.module_semantics.proofs.ModuleShapeExamples.{one}
 
@@ -74,7 +79,12 @@ module _ (other : Module) (members : Vec StructMember Global) where
       pair (at 0 0) (at 0 16) 20 ∷
       -- 20: an array of arrays of another stride, and a struct with it
       array 6 64 ∷
-      alone (at 20 0) 128 ∷ [])
+      alone (at 20 0) 128 ∷
+      -- bindings, 22: with a gap; 23: off the alignment; 24: off it, over the first; 25: over it, in its place
+      pair (with_location 0 0) (with_location 0 16) 20 ∷
+      pair (with_location 0 0) (with_location 0 6) 12 ∷
+      pair (at 0 0) (at 22 6) 28 ∷
+      pair (at 0 0) (at 22 8) 28 ∷ [])
 
   abbrev m : Module
   m = record other {
@@ -84,6 +94,7 @@ module _ (other : Module) (members : Vec StructMember Global) where
       external_texture_params = Some 19;
       external_texture_transfer_function = None;
     };
+    keeps_bound_offsets = true;
   }
 
   abbrev offsets : (h : ℕ) → Option (List ℕ)
@@ -91,50 +102,106 @@ module _ (other : Module) (members : Vec StructMember Global) where
 
   -- ---- which structs are concerned
   natural : offsets 2 ≡ Some (0 ∷ 12 ∷ [])
-  unfolding layout_at
+  unfolding layout_at has_bindings
   natural = refl
 
   misplaced_too : offsets 9 ≡ Some (0 ∷ 6 ∷ [])
-  unfolding layout_at
+  unfolding layout_at has_bindings
   misplaced_too = refl
 
   ends_with_its_buffer : offsets 16 ≡ Some (0 ∷ 16 ∷ [])
-  unfolding layout_at
+  unfolding layout_at has_bindings
   ends_with_its_buffer = refl
 
-  -- no scalar, no struct with two members at the start, with a member that has a binding, with an array of unknown
-  -- length before its end, with a type that has no layout, and none that no text declares
-  no_others : map (λ h. is_none (concerned_members m h)) (0 ∷ 12 ∷ 13 ∷ 15 ∷ 18 ∷ 19 ∷ 99 ∷ [])
-      ≡ true ∷ true ∷ true ∷ true ∷ true ∷ true ∷ true ∷ []
-  unfolding layout_at
+  -- members with bindings, where all can be left where they are, and a struct with such a one
+  with_bindings : offsets 13 ≡ Some (0 ∷ 16 ∷ [])
+  unfolding layout_at has_bindings
+  with_bindings = refl
+
+  with_a_gap : offsets 22 ≡ Some (0 ∷ 16 ∷ [])
+  unfolding layout_at has_bindings
+  with_a_gap = refl
+
+  in_another : offsets 25 ≡ Some (0 ∷ 8 ∷ [])
+  unfolding layout_at has_bindings
+  in_another = refl
+
+  -- no scalar, no struct with two members at the start, with an array of unknown length before its end, with a type
+  -- that has no layout, none that no text declares, and none that has bindings and a member that can't be left
+  no_others : map (λ h. is_none (concerned_members m h)) (0 ∷ 12 ∷ 15 ∷ 18 ∷ 19 ∷ 23 ∷ 24 ∷ 99 ∷ [])
+      ≡ true ∷ true ∷ true ∷ true ∷ true ∷ true ∷ true ∷ true ∷ []
+  unfolding layout_at has_bindings
   no_others = refl
+
+  -- ---- where bound structs need not keep their offsets
+  abbrev free : Module
+  free = record m { keeps_bound_offsets = false }
+
+  -- none that has bindings is concerned, and all others are as above
+  none_bound : map (λ h. is_none (concerned_members free h)) (13 ∷ 22 ∷ 23 ∷ 24 ∷ 25 ∷ [])
+      ≡ true ∷ true ∷ true ∷ true ∷ true ∷ []
+  unfolding layout_at has_bindings
+  none_bound = refl
+
+  others_alike : map (concerned_members free) (0 ∷ 2 ∷ 3 ∷ 4 ∷ 7 ∷ 8 ∷ 9 ∷ 10 ∷ 11 ∷ 12 ∷ 15 ∷ 16 ∷ 18 ∷ 19 ∷ 21 ∷ [])
+      ≡ map (concerned_members m) (0 ∷ 2 ∷ 3 ∷ 4 ∷ 7 ∷ 8 ∷ 9 ∷ 10 ∷ 11 ∷ 12 ∷ 15 ∷ 16 ∷ 18 ∷ 19 ∷ 21 ∷ [])
+  unfolding layout_at has_bindings
+  others_alike = refl
+
+  -- of any module, nothing is asked but that all members are laid out, none with a binding, and that these
+  -- members are concerned
+  unasked_placed : (f : ℕ → Option Layout) (k : StructMember) →
+      placed_member false f k ≡
+      (if is_none k.binding then option_map (λ l. record { layout = l; offset = k.offset }) (f k.ty) else None)
+  unasked_placed f k = refl
+
+  unasked : (it : TypeInner) (h : ℕ) →
+      concerned_of (record other { keeps_bound_offsets = false }) h it ≡
+      (if is_declared other.special_types h it
+      then option_and_then (λ ks. if is_concerned ks then Some ks else None)
+      (placed_members false (layout_in (record other { keeps_bound_offsets = false })) (members_of it)) else None)
+  unasked it h = refl
 
   -- ---- what is written
   abbrev sizes : (h : ℕ) → List (Option ℕ)
   sizes h = written_size m h 0 ∷ written_size m h 1 ∷ []
 
   natural_sizes : sizes 2 ≡ None ∷ None ∷ []
-  unfolding layout_at
+  unfolding layout_at has_bindings
   natural_sizes = refl
 
   gap_sizes : sizes 3 ≡ Some 16 ∷ None ∷ []
-  unfolding layout_at
+  unfolding layout_at has_bindings
   gap_sizes = refl
 
   room_at_the_end : sizes 4 ≡ Some 16 ∷ None ∷ []
-  unfolding layout_at
+  unfolding layout_at has_bindings
   room_at_the_end = refl
 
   over_sized_structs : sizes 7 ≡ None ∷ None ∷ []
-  unfolding layout_at
+  unfolding layout_at has_bindings
   over_sized_structs = refl
 
   before_an_array : sizes 16 ≡ Some 16 ∷ None ∷ []
-  unfolding layout_at
+  unfolding layout_at has_bindings
   before_an_array = refl
 
-  not_concerned : map sizes (12 ∷ 13 ∷ 19 ∷ []) ≡ (None ∷ None ∷ []) ∷ (None ∷ None ∷ []) ∷ (None ∷ None ∷ []) ∷ []
-  unfolding layout_at
+  -- beside bindings too, and none where WGSL has the next member there by itself
+  gap_between_bindings : sizes 22 ≡ Some 16 ∷ None ∷ []
+  unfolding layout_at has_bindings
+  gap_between_bindings = refl
+
+  gap_before_bindings : sizes 25 ≡ Some 8 ∷ None ∷ []
+  unfolding layout_at has_bindings
+  gap_before_bindings = refl
+
+  natural_bindings : sizes 13 ≡ None ∷ None ∷ []
+  unfolding layout_at has_bindings
+  natural_bindings = refl
+
+  not_concerned : map sizes (12 ∷ 19 ∷ 23 ∷ 24 ∷ []) ≡ (None ∷ None ∷ []) ∷ (None ∷ None ∷ []) ∷ (None ∷ None ∷ [])
+      ∷ (None ∷ None ∷ []) ∷ []
+  unfolding layout_at has_bindings
   not_concerned = refl
 
   -- ---- what stands against a struct
@@ -143,12 +210,12 @@ module _ (other : Module) (members : Vec StructMember Global) where
 
   off_alignment : map (is_faulty is_off_alignment) (2 ∷ 3 ∷ 9 ∷ 10 ∷ 11 ∷ 12 ∷ 13 ∷ []) ≡ false ∷ false ∷ true
       ∷ true ∷ false ∷ false ∷ false ∷ []
-  unfolding layout_at
+  unfolding layout_at has_bindings
   off_alignment = refl
 
   overlapping : map (is_faulty overlaps) (2 ∷ 3 ∷ 9 ∷ 10 ∷ 11 ∷ 12 ∷ 13 ∷ []) ≡ false ∷ false ∷ false ∷ false
       ∷ true ∷ false ∷ false ∷ []
-  unfolding layout_at
+  unfolding layout_at has_bindings
   overlapping = refl
 
   other_strides : map (arrays_are_kept (module_rule m) types) (0 ∷ 5 ∷ 6 ∷ 14 ∷ 20 ∷ 7 ∷ 8 ∷ [])
@@ -166,7 +233,7 @@ module _ (other : Module) (members : Vec StructMember Global) where
       (worked.member first "a" (worked.named_type "u32") ∷ worked.member [] "b" (worked.named_type "u32") ∷ []) ∷ []
 
   kept : offsets_read (gap_text (sized 16)) (codes "Q") ≡ offsets 3
-  unfolding layout_at struct_layout_read
+  unfolding layout_at has_bindings struct_layout_read
   kept = refl
 
   kept_span : size_of_struct_read (gap_text (sized 16)) (codes "Q") ≡ Some (span_at m 3)

@@ -42,8 +42,9 @@ stand_in_order types stand h t at =
 -- marks that say what the module's special types say give its rule
 pub rules_alike : (m : Module) (marks : List Bool) →
     ((h : ℕ) → get_or marks h false ≡ is_undeclared m.special_types h) →
-    written_rule marks ≡ module_rule m
-rules_alike m marks told = λ i. record { strict = false; declared = λ h. not (told h i) }
+    written_rule m.keeps_bound_offsets marks ≡ module_rule m
+rules_alike m marks told =
+    λ i. record { strict = false; bound = m.keeps_bound_offsets; declared = λ h. not (told h i) }
 
 -- ---- accepted modules
 -- the parts of an accepted module's types stand before them

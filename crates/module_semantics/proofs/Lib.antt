@@ -28,6 +28,7 @@ pub mod Operations
 pub mod OwnOperators
 mod WordExamples
 pub mod WrittenSizes
+mod KeptBindings
 pub mod ExpressionForms
 pub mod ShapeExamples
 pub mod ShapeKinds

@@ -1,13 +1,14 @@
 -- The sizes that the members of a struct are given, one by one, by how the struct is laid out.
 --
 -- Throughout, m is a module, h the handle of a type t of it, it a type by itself, f tells layouts of
--- types, ms are the members of a struct, ks are these as the module places them, k is one, i a number, a
--- an alignment and span how many bytes the module gives to the struct.
+-- types, bound says whether members with bindings are laid out, ms are the members of a struct, ks are
+-- these as the module places them, k is one, i a number, a an alignment and span how many bytes the module
+-- gives to the struct.
 use Rattle.std.proofs.Common.{◌≡◌, ◌∙◌, ℕ, zero, suc, Bool, true, false, List, [], ◌∷◌, Option, Some, None}
-use Rattle.std.proofs.Common.{ap, refl, slice_get, sym}
-use Rattle.std.specs.Prelude.{IsTrue, if◌then◌else◌, unwrap_or}
+use Rattle.std.proofs.Common.{ap, ap₂, refl, slice_get, sym}
+use Rattle.std.specs.Prelude.{◌&&◌, ◌||◌, IsTrue, if◌then◌else◌, not, unwrap_or}
 use Rattle.std.specs.Option.{is_none, is_some, option_and_then, option_map, option_map_or}
-use Rattle.std.proofs.lemmas.Bool.{false≢true}
+use Rattle.std.proofs.lemmas.Bool.{and_parts, false≢true}
 use Rattle.naga_ir.specs.declared.module.Module.{Module}
 use Rattle.naga_ir.specs.declared.types.StructMember.{StructMember}
 use Rattle.naga_ir.specs.declared.types.Type_.{Type_}
@@ -29,7 +30,8 @@ use Rattle.wgsl_layout.specs.declared.layouts.Layout.{Layout}
 use Rattle.wgsl_layout.specs.declared.layouts.Placed.{Placed}
 use Rattle.wgsl_layout.specs.declared.members.Misplaced.TheVariants.{OffAlignment, Overlapping}
 use Rattle.module_semantics.specs.DeclarationForms.{DeclarationsHaveForms}
-use Rattle.module_semantics.specs.Layouts.{concerned_members, concerned_of, concerned_only, layout_in, module_rule}
+use Rattle.module_semantics.specs.Layouts.{are_to_keep, concerned_members, concerned_of, concerned_only}
+use Rattle.module_semantics.specs.Layouts.{keeps_bindings, layout_in, module_rule, placed_in}
 use Rattle.module_semantics.specs.Layouts.{size_among, span_at, span_of, written_size}
 use Rattle.module_semantics.specs.Undeclared.{is_declared}
 
@@ -55,9 +57,9 @@ sized_at a span (k ∷ next ∷ more) (suc i) = sized_at a span (next ∷ more) 
 abbrev pub placed : Layout → StructMember → Placed
 placed l k = record { layout = l; offset = k.offset }
 
-some_placed : (f : ℕ → Option Layout) (k : StructMember) (p : Placed) → placed_member f k ≡ Some p →
-    (l : Layout) × (f k.ty ≡ Some l) × (p ≡ placed l k)
-some_placed f k p is = by (is_none k.binding) (f k.ty) refl is
+some_placed : (bound : Bool) (f : ℕ → Option Layout) (k : StructMember) (p : Placed) →
+    placed_member bound f k ≡ Some p → (l : Layout) × (f k.ty ≡ Some l) × (p ≡ placed l k)
+some_placed bound f k p is = by (bound || is_none k.binding) (f k.ty) refl is
   where
     by : (free : Bool) (o : Option Layout) → f k.ty ≡ o →
         (if free then option_map (λ l. placed l k) o else None) ≡ Some p →
@@ -67,21 +69,21 @@ some_placed f k p is = by (is_none k.binding) (f k.ty) refl is
     by true (Some l) has is = (l, has, ap (λ o. unwrap_or o p) (sym is))
 
 -- what is known of members that all have places
-module _ (f : ℕ → Option Layout) where
+module _ (bound : Bool) (f : ℕ → Option Layout) where
   -- the first of them, and the others
   pub record Split (k : StructMember) (more : List StructMember) (ks : List Placed) : Type 0 where
     pub first : Placed
     pub others : List Placed
     pub is : ks ≡ first ∷ others
-    pub has : placed_member f k ≡ Some first
-    pub have : placed_members f more ≡ Some others
+    pub has : placed_member bound f k ≡ Some first
+    pub have : placed_members bound f more ≡ Some others
 
   split : (k : StructMember) (more : List StructMember) (ks : List Placed) →
-      placed_members f (k ∷ more) ≡ Some ks → Split k more ks
-  split k more ks is = by (placed_member f k) refl (placed_members f more) refl is
+      placed_members bound f (k ∷ more) ≡ Some ks → Split k more ks
+  split k more ks is = by (placed_member bound f k) refl (placed_members bound f more) refl is
     where
-      by : (o : Option Placed) → placed_member f k ≡ o → (os : Option (List Placed)) →
-          placed_members f more ≡ os →
+      by : (o : Option Placed) → placed_member bound f k ≡ o → (os : Option (List Placed)) →
+          placed_members bound f more ≡ os →
           option_and_then (λ p. option_map (λ ps. p ∷ ps) os) o ≡ Some ks → Split k more ks
       by None has os have is = absurd cc
       by (Some p) has None have is = absurd cc
@@ -93,7 +95,7 @@ module _ (f : ℕ → Option Layout) where
         have = have;
       }
 
-  pub placed_none : (ms : List StructMember) (ks : List Placed) → placed_members f ms ≡ Some ks →
+  pub placed_none : (ms : List StructMember) (ks : List Placed) → placed_members bound f ms ≡ Some ks →
       (i : ℕ) → slice_get ms i ≡ None → slice_get ks i ≡ None
   placed_none [] ks is i none = ap (λ o. slice_get (unwrap_or o []) i) (sym is)
   placed_none (k ∷ more) ks is zero none = absurd cc
@@ -101,14 +103,14 @@ module _ (f : ℕ → Option Layout) where
       let s = split k more ks is in
       ap (λ ks. slice_get ks (suc i)) s.is ∙ placed_none more s.others s.have i none
 
-  pub placed_some : (ms : List StructMember) (ks : List Placed) → placed_members f ms ≡ Some ks →
+  pub placed_some : (ms : List StructMember) (ks : List Placed) → placed_members bound f ms ≡ Some ks →
       (i : ℕ) (k : StructMember) → slice_get ms i ≡ Some k →
       (l : Layout) × (f k.ty ≡ Some l) × (slice_get ks i ≡ Some (placed l k))
   placed_some [] ks is i k there = absurd cc
   placed_some (first ∷ more) ks is zero k there =
       let s = split first more ks is in
       let same : first ≡ k = ap (λ o. unwrap_or o k) there in
-      let l = some_placed f k s.first (ap (placed_member f) (sym same) ∙ s.has) in
+      let l = some_placed bound f k s.first (ap (placed_member bound f) (sym same) ∙ s.has) in
       (l.0, l.1, ap (λ ks. slice_get ks 0) s.is ∙ ap (λ p. Some p) l.2)
   placed_some (first ∷ more) ks is (suc i) k there =
       let s = split first more ks is in
@@ -116,12 +118,17 @@ module _ (f : ℕ → Option Layout) where
       (l.0, l.1, ap (λ ks. slice_get ks (suc i)) s.is ∙ l.2)
 
 -- ---- structs
+-- with bindings or without, what is kept is as it has to be
+pub able : (bindings kept : Bool) → kept ≡ true → (not bindings || kept) ≡ true
+able true kept is = is
+able false kept is = refl
+
 -- a struct that a text declares is laid out by its members
 declared_layout : (m : Module) (f : ℕ → Option Layout) (h : ℕ) (it : TypeInner) →
     is_declared m.special_types h it ≡ true →
-    named_layout_by (module_rule m) f h it ≡ kept_struct f (members_of it) (span_of it)
+    named_layout_by (module_rule m) f h it ≡ kept_struct m.keeps_bound_offsets f (members_of it) (span_of it)
 declared_layout m f h (inner.Struct members span) declared =
-    ap (λ b. if b then kept_struct f members.items span else None) declared
+    ap (λ b. if b then kept_struct m.keeps_bound_offsets f members.items span else None) declared
 declared_layout m f h _ declared = absurd (false≢true declared)
 
 module _ (m : Module) (h : ℕ) (t : Type_) (at : slice_get m.types h ≡ Some t)
@@ -135,41 +142,48 @@ module _ (m : Module) (h : ℕ) (t : Type_) (at : slice_get m.types h ≡ Some t
   pub span_is : span_at m h ≡ span
   span_is = ap (λ o. option_map_or (λ t. span_of t.inner) o 0) at
 
-  concerned_is : concerned_members m h ≡ option_and_then concerned_only (placed_members (layout_in m) ms)
+  abbrev bindings : Bool
+  bindings = keeps_bindings m ms
+
+  concerned_is : concerned_members m h ≡ option_and_then (concerned_only bindings) (placed_in m ms)
   concerned_is =
       ap (option_and_then (λ t. concerned_of m h t.inner)) at
-      ∙ ap (λ b. if b then option_and_then concerned_only (placed_members (layout_in m) ms) else None) declared
+      ∙ ap (λ b. if b then option_and_then (concerned_only bindings) (placed_in m ms)
+      else None) declared
 
   -- a struct that is concerned
   pub record Concerned (ks : List Placed) : Type 0 where
-    pub placed : placed_members (layout_in m) ms ≡ Some ks
+    pub placed : placed_in m ms ≡ Some ks
     pub concerned : is_concerned ks ≡ true
+    pub can : (not bindings || are_kept None ks) ≡ true
 
   pub concerned_so : (ks : List Placed) → concerned_members m h ≡ Some ks → Concerned ks
-  concerned_so ks is = by (placed_members (layout_in m) ms) refl (sym concerned_is ∙ is)
+  concerned_so ks is = by (placed_in m ms) refl (sym concerned_is ∙ is)
     where
-      by : (o : Option (List Placed)) → placed_members (layout_in m) ms ≡ o →
-          option_and_then concerned_only o ≡ Some ks → Concerned ks
+      by : (o : Option (List Placed)) → placed_in m ms ≡ o →
+          option_and_then (concerned_only bindings) o ≡ Some ks → Concerned ks
       by None has is = absurd cc
-      by (Some ps) has is = test (is_concerned ps) refl is
+      by (Some ps) has is = test (are_to_keep bindings ps) refl is
         where
-          test : (b : Bool) → is_concerned ps ≡ b → (if b then Some ps else None) ≡ Some ks → Concerned ks
+          test : (b : Bool) → are_to_keep bindings ps ≡ b → (if b then Some ps else None) ≡ Some ks → Concerned ks
           test false concerns is = absurd cc
           test true concerns is =
               let same : ps ≡ ks = ap (λ o. unwrap_or o ks) is in
-              record { placed = has ∙ is; concerned = ap is_concerned (sym same) ∙ concerns }
+              let parts = and_parts (not bindings || are_kept None ks) (is_concerned ks)
+              (ap (are_to_keep bindings) (sym same) ∙ concerns) in
+              record { placed = has ∙ is; concerned = parts.1; can = parts.0 }
 
   so_concerned : (ks : List Placed) → Concerned ks → concerned_members m h ≡ Some ks
   so_concerned ks c =
-      concerned_is ∙ (ap (option_and_then concerned_only) c.placed
-      ∙ ap (λ b. if b then Some ks else None) c.concerned)
+      concerned_is ∙ (ap (option_and_then (concerned_only bindings)) c.placed
+      ∙ ap₂ (λ a b. if a && b then Some ks else None) c.can c.concerned)
 
   module _ (order : StandInOrder m.types) where
-    laid_is : layout_in m h ≡ kept_struct (layout_in m) ms span
+    laid_is : layout_in m h ≡ kept_struct m.keeps_bound_offsets (layout_in m) ms span
     laid_is = layout_is (module_rule m) m.types order h t at ∙ declared_layout m (layout_in m) h t.inner declared
 
     -- kept members make it a struct with a layout
-    struct_is : (k : Placed) (more : List Placed) → placed_members (layout_in m) ms ≡ Some (k ∷ more) →
+    struct_is : (k : Placed) (more : List Placed) → placed_in m ms ≡ Some (k ∷ more) →
         are_kept None (k ∷ more) ≡ true →
         layout_in m h ≡ Some (ended span (greatest_placed 0 (k ∷ more)) (last_of k more))
     struct_is k more has kept =
@@ -177,31 +191,36 @@ module _ (m : Module) (h : ℕ) (t : Type_) (at : slice_get m.types h ≡ Some t
         ∙ (ap (option_and_then (kept_members span)) has
         ∙ (ap (λ b. if b then struct_layout (written_members span (k ∷ more)) else None) kept
         ∙ struct_kept span k more
-        (members_aligned (layout_in m) (all_aligned (module_rule m) m.types) ms (k ∷ more) has) kept))
+        (members_aligned m.keeps_bound_offsets (layout_in m) (all_aligned (module_rule m) m.types) ms (k ∷ more) has)
+        kept))
 
     -- a struct that is laid out, with its members
     pub record Laid (l : Layout) : Type 0 where
       pub members : List Placed
       pub concerned : concerned_members m h ≡ Some members
-      pub placed : placed_members (layout_in m) ms ≡ Some members
+      pub placed : placed_in m ms ≡ Some members
       pub alignment : l.alignment ≡ greatest_placed 0 members
 
     pub laid : (l : Layout) → layout_in m h ≡ Some l → Laid l
-    laid l is = by (placed_members (layout_in m) ms) refl (sym laid_is ∙ is)
+    laid l is = by (placed_in m ms) refl (sym laid_is ∙ is)
       where
-        by : (o : Option (List Placed)) → placed_members (layout_in m) ms ≡ o →
+        by : (o : Option (List Placed)) → placed_in m ms ≡ o →
             option_and_then (kept_members span) o ≡ Some l → Laid l
         by None has kept = absurd cc
         by (Some ks) has kept = test ks has (are_kept None ks) refl kept
           where
-            test : (ks : List Placed) → placed_members (layout_in m) ms ≡ Some ks → (b : Bool) →
+            test : (ks : List Placed) → placed_in m ms ≡ Some ks → (b : Bool) →
                 are_kept None ks ≡ b →
                 (if b then struct_layout (written_members span ks) else None) ≡ Some l → Laid l
             test ks has false keeps laid = absurd cc
             test [] has true keeps laid = absurd cc
             test (k ∷ more) has true keeps laid = record {
               members = k ∷ more;
-              concerned = so_concerned (k ∷ more) (record { placed = has; concerned = kept_concerned k more keeps });
+              concerned = so_concerned (k ∷ more) (record {
+                placed = has;
+                concerned = kept_concerned k more keeps;
+                can = able bindings (are_kept None (k ∷ more)) keeps;
+              });
               placed = has;
               alignment = ap (λ o. option_map_or (λ l. l.alignment) o 0) (sym is ∙ struct_is k more has keeps);
             }
@@ -214,7 +233,7 @@ module _ (m : Module) (h : ℕ) (t : Type_) (at : slice_get m.types h ≡ Some t
     given l is i k own there has =
         let ks = is.members in
         let whole = greatest_placed 0 ks in
-        let p = placed_some (layout_in m) ms ks is.placed i k there in
+        let p = placed_some m.keeps_bound_offsets (layout_in m) ms ks is.placed i k there in
         let same : p.0 ≡ own = ap (λ o. unwrap_or o own) (sym p.1 ∙ has) in
         ap (option_and_then (size_among (span_at m h) i)) is.concerned
         ∙ (ap (λ span. size_among span i ks) span_is

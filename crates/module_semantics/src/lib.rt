@@ -4,10 +4,12 @@
 //! what standard compilers ask extensions for.
 #![tactic(auto)]
 
+mod bound;
 mod called;
 pub mod extensions;
 pub mod named;
 pub mod type_parts;
 
+pub use bound::none_is_refused_for_bindings;
 pub use called::called_str;
 pub use named::ListName;

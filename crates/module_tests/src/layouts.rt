@@ -7,7 +7,7 @@ use naga_acceptance::accepts;
 use naga_builder::ModuleBuilder;
 use naga_ir::{Handle, ItemIndex, Scalar, StructMember, Type_, TypeInner, UniqueArena};
 use naga_json::read_known;
-use naga_layout::{TypeLayout, type_layout};
+use naga_layout::{TypeLayout, layout_told, type_layout};
 use std::alloc::Global;
 use std::process::Abort;
 
@@ -121,6 +121,16 @@ fn label(ty: &Type_) -> &str {
     }
 }
 
+/// The struct with a binding has a layout where those with bindings are laid out, and all others as
+/// before.
+fn with_bound(name: &str, want: Option<(u32, Option<u32>)>) -> Option<(u32, Option<u32>)> {
+    if name == "bound" {
+        Some((4, Some(4)))
+    } else {
+        want
+    }
+}
+
 /// Each of these types has its name, and its alignment and size.
 #[tactic(auto, using(module_semantics::proofs::Layouts::stand_in_order))]
 fn check_types(rt: &impl Abort, types: &UniqueArena<Type_>)
@@ -131,6 +141,8 @@ fn check_types(rt: &impl Abort, types: &UniqueArena<Type_>)
         assert!(rt; index < types.len());
         assert_eq!(rt; label(&types[handle]), *name);
         assert_eq!(rt; numbers(type_layout(types, handle)), *want, "{name}");
+        let told = numbers(layout_told(types, handle, true));
+        assert_eq!(rt; told, with_bound(name, *want), "{name}");
     }
 }
 

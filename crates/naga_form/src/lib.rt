@@ -46,7 +46,9 @@ pub fn has_the_interface()
 /// struct that is concerned at the module's offsets. They give the struct its span, if that has
 /// room for all its members and is a multiple of the struct's alignment. It concerns each struct
 /// that a text declares, that has members, all of them with a layout and none with a binding, of
-/// which none but the first is at 0 and all but the last have a size.
+/// which none but the first is at 0 and all but the last have a size. In a module that keeps the
+/// offsets of bound structs it concerns those with bindings too, if all members can be left where
+/// they are.
 pub fn keeps_the_layouts()
     ensures { KeepsTheLayouts }
 {}

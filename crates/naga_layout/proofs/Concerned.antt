@@ -1,7 +1,8 @@
 -- Structs that have a layout are those whose offsets are to be kept and can be.
 --
 -- Throughout, f tells layouts of types, ms are the members of a struct, ks are they as they are placed,
--- b is the one before the others, and span how many bytes the module gives to the struct.
+-- b is the one before the others, span how many bytes the module gives to the struct, and bound says
+-- whether members with bindings are laid out.
 use Rattle.std.proofs.Common.{◌≡◌, ◌∙◌, ◌+◌, ℕ, Bool, true, false, List, [], ◌∷◌, Option, Some}
 use Rattle.std.proofs.Common.{None, ap, ap₂, refl, sym}
 use Rattle.std.specs.Prelude.{◌||◌, ◌==◌, if◌then◌else◌, nat_le, nat_lt, not}
@@ -24,24 +25,24 @@ use Rattle.naga_layout.proofs.Left.{AlignsAll, members_aligned}
 use Rattle.naga_layout.specs.Types.{kept_members, kept_struct, placed_members}
 
 -- a struct with a layout has such members
-pub record Concerned (f : ℕ → Option Layout) (ms : List StructMember) : Type 0 where
+pub record Concerned (bound : Bool) (f : ℕ → Option Layout) (ms : List StructMember) : Type 0 where
   pub placed : List Placed
-  pub are : placed_members f ms ≡ Some placed
+  pub are : placed_members bound f ms ≡ Some placed
   pub concerned : is_concerned placed ≡ true
   pub kept : are_kept None placed ≡ true
 
-pub laid_concerned : (f : ℕ → Option Layout) (ms : List StructMember) (span : ℕ) →
-    is_some (kept_struct f ms span) ≡ true → Concerned f ms
-laid_concerned f ms span there = by (placed_members f ms) refl there
+pub laid_concerned : (bound : Bool) (f : ℕ → Option Layout) (ms : List StructMember) (span : ℕ) →
+    is_some (kept_struct bound f ms span) ≡ true → Concerned bound f ms
+laid_concerned bound f ms span there = by (placed_members bound f ms) refl there
   where
-    by : (o : Option (List Placed)) → placed_members f ms ≡ o →
-        is_some (option_and_then (kept_members span) o) ≡ true → Concerned f ms
+    by : (o : Option (List Placed)) → placed_members bound f ms ≡ o →
+        is_some (option_and_then (kept_members span) o) ≡ true → Concerned bound f ms
     by None are there = absurd (false≢true there)
     by (Some []) are there = absurd (false≢true there)
     by (Some (k ∷ more)) are there = at (are_kept None (k ∷ more)) refl there
       where
         at : (b : Bool) → are_kept None (k ∷ more) ≡ b →
-            is_some (if b then struct_layout (written_members span (k ∷ more)) else None) ≡ true → Concerned f ms
+            is_some (if b then struct_layout (written_members span (k ∷ more)) else None) ≡ true → Concerned bound f ms
         at false kept there = absurd (false≢true there)
         at true kept there = record {
           placed = k ∷ more;
@@ -51,16 +52,16 @@ laid_concerned f ms span there = by (placed_members f ms) refl there
         }
 
 -- and one with such members, of which none is misplaced, has a layout
-pub concerned_laid : (f : ℕ → Option Layout) (aligns : AlignsAll f) (ms : List StructMember) (span : ℕ)
-    (ks : List Placed) →
-    placed_members f ms ≡ Some ks → is_concerned ks ≡ true → first_fault None None ks ≡ None →
-    is_some (kept_struct f ms span) ≡ true
-concerned_laid f aligns ms span [] are concerned none = absurd (false≢true concerned)
-concerned_laid f aligns ms span (k ∷ more) are concerned none =
+pub concerned_laid : (bound : Bool) (f : ℕ → Option Layout) (aligns : AlignsAll f) (ms : List StructMember)
+    (span : ℕ) (ks : List Placed) →
+    placed_members bound f ms ≡ Some ks → is_concerned ks ≡ true → first_fault None None ks ≡ None →
+    is_some (kept_struct bound f ms span) ≡ true
+concerned_laid bound f aligns ms span [] are concerned none = absurd (false≢true concerned)
+concerned_laid bound f aligns ms span (k ∷ more) are concerned none =
     let kept = none_kept (k ∷ more) concerned none in
     ap (λ o. is_some (option_and_then (kept_members span) o)) are
     ∙ (ap (λ b. is_some (if b then struct_layout (written_members span (k ∷ more)) else None)) kept
-    ∙ ap is_some (struct_kept span k more (members_aligned f aligns ms (k ∷ more) are) kept))
+    ∙ ap is_some (struct_kept span k more (members_aligned bound f aligns ms (k ∷ more) are) kept))
 
 -- ---- where all are kept, no fault stands
 kept_aligned : (before : Option Placed) (ks : List Placed) → are_kept before ks ≡ true →

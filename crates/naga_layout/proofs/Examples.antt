@@ -16,8 +16,9 @@ use Rattle.naga_ir.specs.declared.types.TypeInner.{TypeInner}
 use Rattle.naga_ir.specs.declared.types.TypeInner.TheVariants as inner
 use Rattle.naga_ir.specs.declared.types.VectorSize.TheVariants as vector
 use Rattle.wgsl_layout.specs.declared.layouts.Layout.{Layout}
-use Rattle.naga_layout.specs.Types.{told}
-use Rattle.naga_layout.specs.Types.{Rule, arrays_are_kept, inner_layout_by, layout_at, user_rule}
+use Rattle.naga_layout.specs.Bindings.{has_bindings}
+use Rattle.naga_layout.specs.Types.{Rule, arrays_are_kept, inner_layout_by, layout_at, told}
+use Rattle.naga_layout.specs.Types.{told_rule, user_rule}
 
 abbrev bytes : (a s : ℕ) → Option Layout
 bytes a s = Some (record { alignment = a; size = Some s })
@@ -27,7 +28,7 @@ scalar k n = record { kind = k; width = n }
 
 -- ---- types that name no other
 abbrev layout_of : TypeInner → Option Layout
-layout_of it = inner_layout_by true (λ h. None) it
+layout_of it = inner_layout_by user_rule (λ h. None) it
 
 i16 : layout_of (inner.Scalar (scalar kind.Sint 2)) ≡ bytes 2 2
 i16 = refl
@@ -118,7 +119,11 @@ module _ (v : Vec StructMember Global) where
       inner.Struct (one (with_location 1 0)) 4 ∷
       inner.Struct (two (member 12 0) (member 1 16)) 20 ∷
       array 1 1073741823 4 ∷
-      array 8 1 32 ∷ [])
+      array 8 1 32 ∷
+      inner.Struct (two (with_location 1 0) (with_location 1 16)) 20 ∷
+      array 19 1 20 ∷
+      inner.Struct (two (member 1 0) (member 20 12)) 52 ∷
+      inner.Struct (two (with_location 1 0) (with_location 1 0)) 4 ∷ [])
 
   abbrev told_at : (h : ℕ) → Option Layout
   told_at h = layout_at user_rule types h
@@ -173,14 +178,39 @@ module _ (v : Vec StructMember Global) where
   unfolding layout_at
   tail = refl
 
-  -- as long as an override says, a member with a binding, and one without a size before another
+  -- a member with a binding, and structs in which there are some
+  unbound : map told_at (15 ∷ 19 ∷ 20 ∷ 21 ∷ 22 ∷ []) ≡ None ∷ None ∷ None ∷ None ∷ None ∷ []
+  unfolding layout_at
+  unbound = refl
+
+  -- by the other rule they are laid out as others are, and may be at one offset, so that none is
+  abbrev bound_at : (h : ℕ) → Option Layout
+  bound_at h = layout_at (told_rule true) types h
+
+  with_binding : bound_at 15 ≡ bytes 4 4
+  unfolding layout_at
+  with_binding = refl
+
+  with_bindings : bound_at 19 ≡ bytes 4 20
+  unfolding layout_at
+  with_bindings = refl
+
+  bound_inside : bound_at 21 ≡ bytes 4 52
+  unfolding layout_at
+  bound_inside = refl
+
+  no_other : map bound_at (3 ∷ 10 ∷ 13 ∷ []) ≡ map told_at (3 ∷ 10 ∷ 13 ∷ [])
+  unfolding layout_at
+  no_other = refl
+
+  bound_at_one : bound_at 22 ≡ None
+  unfolding layout_at
+  bound_at_one = refl
+
+  -- as long as an override says, and one without a size before another
   pending : told_at 14 ≡ None
   unfolding layout_at
   pending = refl
-
-  with_binding : told_at 15 ≡ None
-  unfolding layout_at
-  with_binding = refl
 
   endless_first : told_at 16 ≡ None
   unfolding layout_at
@@ -196,7 +226,7 @@ module _ (v : Vec StructMember Global) where
 
   -- ---- as a text is written, in which the struct at 5 is not declared
   abbrev text_rule : Rule
-  text_rule = record { strict = false; declared = λ h. not (h == 5) }
+  text_rule = record { strict = false; bound = false; declared = λ h. not (h == 5) }
 
   -- whatever the module's stride is
   wide_text : layout_at (record text_rule { declared = λ h. true }) types 8 ≡ bytes 4 32
@@ -232,3 +262,17 @@ module _ (v : Vec StructMember Global) where
   unknown_stride : arrays_are_kept text_rule types 8 ≡ true
   unfolding arrays_are_kept layout_at
   unknown_stride = refl
+
+  -- ---- bindings
+  -- those of a struct, through its arrays and the structs in it
+  own_bindings : has_bindings types 19 ≡ true
+  unfolding has_bindings
+  own_bindings = refl
+
+  bindings_inside : has_bindings types 21 ≡ true
+  unfolding has_bindings
+  bindings_inside = refl
+
+  no_bindings : has_bindings types 13 ≡ false
+  unfolding has_bindings
+  no_bindings = refl

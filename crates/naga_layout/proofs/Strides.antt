@@ -2,8 +2,8 @@
 -- elements have it.
 --
 -- Throughout, rule says which types are laid out, types are a module's types, h is the handle of one, it
--- a type by itself, f tells layouts of types, g whether arrays have WGSL's stride, marks say which
--- structs no text declares, i is how many cells are filled, and xs are they.
+-- a type by itself, f tells layouts of types, g whether arrays have WGSL's stride, i is how many cells are
+-- filled, and xs are they.
 use Rattle.std.proofs.Common.{◌≡◌, ◌∙◌, ◌<◌, ◌≤◌, ◌+◌, ◌++◌, ℕ, zero, suc, Bool, true, List}
 use Rattle.std.proofs.Common.{[], ◌∷◌, Option, Some, None}
 use Rattle.std.proofs.Common.{ap, arith, inl, inr, length, length-append, refl, slice_get, sym}
@@ -16,7 +16,7 @@ use Rattle.naga_ir.specs.declared.types.Type_.{Type_}
 use Rattle.naga_ir.specs.declared.types.TypeInner.{TypeInner}
 use Rattle.naga_ir.specs.declared.types.TypeInner.TheVariants as inner
 use Rattle.wgsl_layout.specs.declared.layouts.Layout.{Layout}
-use Rattle.naga_layout.specs.Tables.{TellStrides, TellStridesBefore, mark_at, written_rule}
+use Rattle.naga_layout.specs.Tables.{TellStrides, TellStridesBefore, mark_at}
 use Rattle.naga_layout.specs.Types.{Rule, StandInOrder, arrays_are_kept, arrays_are_kept_by}
 use Rattle.naga_layout.specs.Types.{arrays_are_kept_within, layout_at, parts_before, stride_is_kept}
 
@@ -65,31 +65,31 @@ no_array_past rule types h le =
     (slice_get_past types h le)
 
 -- ---- a table of them
-pub one_marked : (marks : List Bool) (types : List Type_) (i : ℕ) (xs ys : List Bool) (x : Bool) →
-    length xs ≡ i → TellStridesBefore marks types i xs →
-    x ≡ arrays_are_kept (written_rule marks) types i → ys ≡ xs ++ x ∷ [] →
-    (length ys ≡ i + 1) × TellStridesBefore marks types (i + 1) ys
-one_marked marks types i xs ys x size told is all = (
+pub one_marked : (rule : Rule) (types : List Type_) (i : ℕ) (xs ys : List Bool) (x : Bool) →
+    length xs ≡ i → TellStridesBefore rule types i xs →
+    x ≡ arrays_are_kept rule types i → ys ≡ xs ++ x ∷ [] →
+    (length ys ≡ i + 1) × TellStridesBefore rule types (i + 1) ys
+one_marked rule types i xs ys x size told is all = (
   ap length all ∙ (length-append xs (x ∷ []) ∙ ap (λ n. n + 1) size),
   λ h lt. ap (λ ys. mark_at ys h) all ∙ by h lt (cases_lt h i),
 )
   where
     by : (h : ℕ) → h < i + 1 → (h < i) ⊎ (i ≤ h) →
-        mark_at (xs ++ x ∷ []) h ≡ arrays_are_kept (written_rule marks) types h
+        mark_at (xs ++ x ∷ []) h ≡ arrays_are_kept rule types h
     by h lt (inl below) =
         get_or_append_left xs (x ∷ []) true h (omega (arith, below, size)) ∙ told h below
     by h lt (inr past) =
         let same : i ≡ h = omega (arith, lt, past) in
         get_or_push xs x true h (size ∙ same)
-        ∙ (is ∙ ap (arrays_are_kept (written_rule marks) types) same)
+        ∙ (is ∙ ap (arrays_are_kept rule types) same)
 
-pub all_marked : (marks : List Bool) (types : List Type_) (xs : List Bool) → length xs ≡ length types →
-    TellStridesBefore marks types (length types) xs → TellStrides marks types xs
-all_marked marks types xs size told h = by (cases_lt h (length types))
+pub all_marked : (rule : Rule) (types : List Type_) (xs : List Bool) → length xs ≡ length types →
+    TellStridesBefore rule types (length types) xs → TellStrides rule types xs
+all_marked rule types xs size told h = by (cases_lt h (length types))
   where
     by : (h < length types) ⊎ (length types ≤ h) →
-        mark_at xs h ≡ arrays_are_kept (written_rule marks) types h
+        mark_at xs h ≡ arrays_are_kept rule types h
     by (inl below) = told h below
     by (inr past) =
         get_or_past xs h true (omega (arith, past, size))
-        ∙ sym (no_array_past (written_rule marks) types h past)
+        ∙ sym (no_array_past rule types h past)

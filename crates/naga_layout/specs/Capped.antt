@@ -1,9 +1,9 @@
 -- Types as the code lays them out: member by member, and with sizes that no offset reaches alike.
 --
 -- Throughout, a is an alignment, f tells the layouts of types, k is a member, p a member with its
--- type's layout, more are those that are left, and span is how many bytes the
--- module gives to a struct.
-use Rattle.std.specs.Prelude.{ℕ, ◌&&◌, List, [], ◌∷◌, max, Option, Some, None}
+-- type's layout, more are those that are left, span is how many bytes the module gives to a struct,
+-- and bound says whether members with bindings are laid out.
+use Rattle.std.specs.Prelude.{ℕ, ◌&&◌, Bool, List, [], ◌∷◌, max, Option, Some, None}
 use Rattle.std.specs.Prelude.{if◌then◌else◌}
 use Rattle.std.specs.Option.{option_and_then, option_map}
 use Rattle.naga_ir.specs.declared.types.StructMember.{StructMember}
@@ -21,11 +21,11 @@ pub data IsWidth : ℕ → Type 0 where
 -- The layout of a struct, where its members can be left where they are: over those that are left,
 -- by the one before these, if there is one, and the greatest alignment up to there.
 abbrev pub left_from :
-    (f : ℕ → Option Layout) → (span : ℕ) → (before : Option Placed) → (a : ℕ) → List StructMember →
-    Option Layout
-left_from f span before a [] = option_map (ended span a) before
-left_from f span before a (k ∷ more) =
+    (bound : Bool) → (f : ℕ → Option Layout) → (span : ℕ) → (before : Option Placed) → (a : ℕ) →
+    List StructMember → Option Layout
+left_from bound f span before a [] = option_map (ended span a) before
+left_from bound f span before a (k ∷ more) =
     option_and_then
     (λ p. if is_aligned p && stands_after before p
-    then left_from f span (Some p) (max a p.layout.alignment) more else None)
-    (placed_member f k)
+    then left_from bound f span (Some p) (max a p.layout.alignment) more else None)
+    (placed_member bound f k)

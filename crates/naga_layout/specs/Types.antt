@@ -5,8 +5,8 @@
 -- Throughout, types are a module's types, h is the handle of one, t a type of the module, it a type
 -- by itself, s a scalar, k a member, p a member with its type's layout, ps are all of them, span is
 -- how many bytes the module gives to a struct, stride how far apart it has the elements of an array
--- begin, f tells the layouts of types that stand before, g whether their arrays are kept, and rule
--- which types are laid out.
+-- begin, f tells the layouts of types that stand before, g whether their arrays are kept, rule
+-- which types are laid out, and bound whether members with bindings are.
 use Rattle.std.specs.Prelude.{◌≡◌, ℕ, zero, suc, ◌==◌, ◌&&◌, ◌||◌, Bool, true, false}
 use Rattle.std.specs.Prelude.{List, [], ◌∷◌, IsTrue, Option, Some, None, if◌then◌else◌, nat_lt}
 use Rattle.std.specs.Prelude.{slice_get}
@@ -68,17 +68,21 @@ told_length (size.Pending override_handle) = None
 told_length size.Dynamic = Some None
 
 -- ---- structs
--- a member with its type's layout, where that is laid out and the member has no binding
-abbrev pub placed_member : (f : ℕ → Option Layout) → StructMember → Option Placed
-placed_member f k =
-    if is_none k.binding then option_map (λ l. record { layout = l; offset = k.offset }) (f k.ty)
-    else None
+-- A member with its type's layout, where that is laid out, and the member has no binding or those
+-- with bindings are laid out too: WGSL's rules ask for sizes and alignments alone.
+abbrev pub placed_member :
+    (bound : Bool) → (f : ℕ → Option Layout) → StructMember → Option Placed
+placed_member bound f k =
+    if bound || is_none k.binding
+    then option_map (λ l. record { layout = l; offset = k.offset }) (f k.ty) else None
 
 -- all members, if each is such a one
-abbrev pub placed_members : (f : ℕ → Option Layout) → List StructMember → Option (List Placed)
-placed_members f [] = Some []
-placed_members f (k ∷ more) =
-    option_and_then (λ p. option_map (λ ps. p ∷ ps) (placed_members f more)) (placed_member f k)
+abbrev pub placed_members :
+    (bound : Bool) → (f : ℕ → Option Layout) → List StructMember → Option (List Placed)
+placed_members bound f [] = Some []
+placed_members bound f (k ∷ more) =
+    option_and_then (λ p. option_map (λ ps. p ∷ ps) (placed_members bound f more))
+    (placed_member bound f k)
 
 -- the layout of a struct, if all its members can be left where they are
 abbrev pub kept_members : (span : ℕ) → List Placed → Option Layout
@@ -86,19 +90,27 @@ kept_members span ks =
     if are_kept None ks then struct_layout (written_members span ks) else None
 
 -- the same of a struct of the module
-abbrev pub kept_struct : (f : ℕ → Option Layout) → List StructMember → (span : ℕ) → Option Layout
-kept_struct f members span = option_and_then (kept_members span) (placed_members f members)
+abbrev pub kept_struct :
+    (bound : Bool) → (f : ℕ → Option Layout) → List StructMember → (span : ℕ) → Option Layout
+kept_struct bound f members span =
+    option_and_then (kept_members span) (placed_members bound f members)
 
 -- ---- types
--- Which types are laid out: of structs those that are declared; of arrays, if the rule is strict,
--- those alone whose elements begin as far apart in the module as WGSL has them begin.
+-- Which types are laid out: of structs those that are declared, and only where members with
+-- bindings are laid out those that have such members; of arrays, if the rule is strict, those alone
+-- whose elements begin as far apart in the module as WGSL has them begin.
 pub record Rule : Type 0 where
   pub strict : Bool
+  pub bound : Bool
   pub declared : ℕ → Bool
 
--- the rule for what users are told: strict, and each struct counts as declared
+-- the rules for what users are told: strict, and each struct counts as declared
+abbrev pub told_rule : (bound : Bool) → Rule
+told_rule bound = record { strict = true; bound = bound; declared = λ h. true }
+
+-- of these, the one by which no struct with bindings is laid out
 abbrev pub user_rule : Rule
-user_rule = record { strict = true; declared = λ h. true }
+user_rule = told_rule false
 
 -- an array of these elements
 abbrev pub laid_array :
@@ -108,21 +120,21 @@ laid_array false stride length element = array_layout length element
 
 -- A type by itself, over the layouts of its parts. All types but these stand in no memory that is
 -- shared.
-abbrev pub inner_layout_by : (strict : Bool) → (f : ℕ → Option Layout) → TypeInner → Option Layout
-inner_layout_by strict f (inner.Scalar s) =
+abbrev pub inner_layout_by : Rule → (f : ℕ → Option Layout) → TypeInner → Option Layout
+inner_layout_by rule f (inner.Scalar s) =
     if has_size s then Some (scalar_layout s.width) else None
-inner_layout_by strict f (inner.Vector n s) =
+inner_layout_by rule f (inner.Vector n s) =
     if has_size s then Some (vector_layout (component_number n) s.width) else None
-inner_layout_by strict f (inner.Matrix columns rows s) =
+inner_layout_by rule f (inner.Matrix columns rows s) =
     if has_size s then matrix_layout (component_number columns) (component_number rows) s.width
     else None
-inner_layout_by strict f (inner.Atomic s) =
+inner_layout_by rule f (inner.Atomic s) =
     if has_atomic_size s then Some (scalar_layout s.width) else None
-inner_layout_by strict f (inner.Array base n stride) =
-    option_and_then (λ length. option_and_then (laid_array strict stride length) (f base))
+inner_layout_by rule f (inner.Array base n stride) =
+    option_and_then (λ length. option_and_then (laid_array rule.strict stride length) (f base))
     (told_length n)
-inner_layout_by strict f (inner.Struct members span) = kept_struct f members.items span
-inner_layout_by strict f _ = None
+inner_layout_by rule f (inner.Struct members span) = kept_struct rule.bound f members.items span
+inner_layout_by rule f _ = None
 
 -- a struct that is not declared is not laid out
 abbrev pub may_be_laid_out : (declared : ℕ → Bool) → (h : ℕ) → TypeInner → Bool
@@ -132,7 +144,7 @@ may_be_laid_out declared h _ = true
 -- the type at a handle, over the layouts of its parts
 abbrev pub named_layout_by : Rule → (f : ℕ → Option Layout) → (h : ℕ) → TypeInner → Option Layout
 named_layout_by rule f h it =
-    if may_be_laid_out rule.declared h it then inner_layout_by rule.strict f it else None
+    if may_be_laid_out rule.declared h it then inner_layout_by rule f it else None
 
 -- the same, where types are in one another at most so many levels deep
 abbrev pub layout_within : (levels : ℕ) → Rule → List Type_ → (h : ℕ) → Option Layout

@@ -21,20 +21,22 @@ use wgsl_layout::{
     Layout, Misplaced, Placed, ended, free_array_layout, goes_on, own_fault, stands_after,
 };
 
-/// How the types of a module are laid out, in one pass over them. `undeclared` marks the structs that no
-/// text declares.
+/// How the types of a module are laid out, in one pass over them. `undeclared` marks the structs
+/// that no text declares, and `bound` says whether members with bindings are laid out.
 pub fn layouts_of(
     alloc: Global,
     types: &UniqueArena<Type_>,
     undeclared: &[bool],
+    bound: bool,
 ) -> Result<Vec<Option<Layout>>, AllocError>
     requires ordered { StandInOrder types.now }
-    ensures { IfOk result (λ cells. TellLayouts undeclared.now types.now cells.items) }
+    ensures { IfOk result (λ cells. TellLayouts (written_rule bound undeclared.now) types.now
+        cells.items) }
 {
     let mut cells = Vec::with_capacity(alloc, types.len())?;
     for index in 0..types.len() {
         let handle: Handle<Type_> = ItemIndex::from_index(index);
-        let layout = named_layout(types, undeclared, &cells, handle, &types[handle].inner);
+        let layout = named_layout(types, undeclared, bound, &cells, handle, &types[handle].inner);
         cells.push(layout)?;
     }
     Ok(cells)
@@ -46,17 +48,19 @@ pub fn strides_of(
     alloc: Global,
     types: &UniqueArena<Type_>,
     undeclared: &[bool],
+    bound: bool,
     layouts: &[Option<Layout>],
 ) -> Result<Vec<bool>, AllocError>
     requires ordered { StandInOrder types.now }
-    requires told { TellLayouts undeclared.now types.now layouts.now }
-    ensures { IfOk result (λ marks. TellStrides undeclared.now types.now marks.items) }
+    requires told { TellLayouts (written_rule bound undeclared.now) types.now layouts.now }
+    ensures { IfOk result (λ marks. TellStrides (written_rule bound undeclared.now) types.now
+        marks.items) }
 {
     let mut marks = Vec::with_capacity(alloc, types.len())?;
     for index in 0..types.len() {
         let handle: Handle<Type_> = ItemIndex::from_index(index);
         let inner = &types[handle].inner;
-        let kept = arrays_are_kept(types, undeclared, layouts, &marks, handle, inner);
+        let kept = arrays_are_kept(types, undeclared, bound, layouts, &marks, handle, inner);
         marks.push(kept)?;
     }
     Ok(marks)
@@ -67,20 +71,22 @@ pub fn strides_of(
 fn arrays_are_kept(
     types: &UniqueArena<Type_>,
     undeclared: &[bool],
+    bound: bool,
     layouts: &[Option<Layout>],
     marks: &[bool],
     here: Handle<Type_>,
     inner: &TypeInner,
 ) -> bool
-    requires told { TellLayouts undeclared.now types.now layouts.now }
-    requires marks { TellStridesBefore undeclared.now types.now here marks.now }
+    requires told { TellLayouts (written_rule bound undeclared.now) types.now layouts.now }
+    requires marks { TellStridesBefore (written_rule bound undeclared.now) types.now here
+        marks.now }
     requires before { IsTrue (parts_before here inner.now) }
-    ensures { result ≡ arrays_are_kept_by (layout_at (written_rule undeclared.now) types.now)
-        (arrays_are_kept (written_rule undeclared.now) types.now) inner.now }
+    ensures { result ≡ arrays_are_kept_by (layout_at (written_rule bound undeclared.now) types.now)
+        (arrays_are_kept (written_rule bound undeclared.now) types.now) inner.now }
 {
     match inner {
         TypeInner::Array { base, stride, .. } => {
-            let element = cell_of(types, undeclared, layouts, *base);
+            let element = cell_of(types, undeclared, bound, layouts, *base);
             stride_is_kept(*stride, element) && mark_of(marks, *base)
         }
         _ => true,
@@ -127,18 +133,19 @@ fn mark_of(marks: &[bool], handle: Handle<Type_>) -> bool
 fn named_layout(
     types: &UniqueArena<Type_>,
     undeclared: &[bool],
+    bound: bool,
     cells: &[Option<Layout>],
     here: Handle<Type_>,
     inner: &TypeInner,
 ) -> Option<Layout>
-    requires told { TellBefore undeclared.now types.now here cells.now }
+    requires told { TellBefore (written_rule bound undeclared.now) types.now here cells.now }
     requires before { IsTrue (parts_before here inner.now) }
-    ensures layout { result ≡ option_map capped (named_layout_by (written_rule undeclared.now)
-        (layout_at (written_rule undeclared.now) types.now) here inner.now) }
+    ensures layout { result ≡ option_map capped (named_layout_by (written_rule bound undeclared.now)
+        (layout_at (written_rule bound undeclared.now) types.now) here inner.now) }
 {
     match inner {
         TypeInner::Struct { .. } if is_marked(undeclared, here) => None,
-        _ => inner_layout(types, undeclared, cells, here, inner),
+        _ => inner_layout(types, undeclared, bound, cells, here, inner),
     }
 }
 
@@ -155,14 +162,15 @@ fn is_marked(marks: &[bool], handle: Handle<Type_>) -> bool
 fn inner_layout(
     types: &UniqueArena<Type_>,
     undeclared: &[bool],
+    bound: bool,
     cells: &[Option<Layout>],
     here: Handle<Type_>,
     inner: &TypeInner,
 ) -> Option<Layout>
-    requires told { TellBefore undeclared.now types.now here cells.now }
+    requires told { TellBefore (written_rule bound undeclared.now) types.now here cells.now }
     requires before { IsTrue (parts_before here inner.now) }
-    ensures layout { result ≡ option_map capped (inner_layout_by false
-        (layout_at (written_rule undeclared.now) types.now) inner.now) }
+    ensures layout { result ≡ option_map capped (inner_layout_by (written_rule bound undeclared.now)
+        (layout_at (written_rule bound undeclared.now) types.now) inner.now) }
 {
     match inner {
         TypeInner::Scalar(scalar) => laid_scalar(width_of(*scalar)),
@@ -173,9 +181,11 @@ fn inner_layout(
             rows,
             scalar,
         } => laid_matrix(*columns, *rows, *scalar),
-        TypeInner::Array { base, size, .. } => array_of(types, undeclared, cells, *base, *size),
+        TypeInner::Array { base, size, .. } => {
+            array_of(types, undeclared, bound, cells, *base, *size)
+        }
         TypeInner::Struct { members, span } => {
-            kept_struct(types, undeclared, cells, members, *span)
+            kept_struct(types, undeclared, bound, cells, members, *span)
         }
         _ => None,
     }
@@ -186,12 +196,13 @@ fn inner_layout(
 fn cell_of(
     types: &UniqueArena<Type_>,
     undeclared: &[bool],
+    bound: bool,
     cells: &[Option<Layout>],
     handle: Handle<Type_>,
 ) -> Option<Layout>
-    requires told { TellsLayout undeclared.now types.now cells.now handle }
+    requires told { TellsLayout (written_rule bound undeclared.now) types.now cells.now handle }
     ensures layout { result ≡ option_map capped
-        (layout_at (written_rule undeclared.now) types.now handle) }
+        (layout_at (written_rule bound undeclared.now) types.now handle) }
     ensures aligned { IfSome result (λ l. IsAlignment l.alignment) }
 {
     match cells.get(handle.index()) {
@@ -203,17 +214,18 @@ fn cell_of(
 fn array_of(
     types: &UniqueArena<Type_>,
     undeclared: &[bool],
+    bound: bool,
     cells: &[Option<Layout>],
     base: Handle<Type_>,
     size: ArraySize,
 ) -> Option<Layout>
-    requires told { TellsLayout undeclared.now types.now cells.now base }
+    requires told { TellsLayout (written_rule bound undeclared.now) types.now cells.now base }
     ensures layout { result ≡ option_map capped (option_and_then
         (λ length. option_and_then (array_layout length)
-        (layout_at (written_rule undeclared.now) types.now base)) (told_length size)) }
+        (layout_at (written_rule bound undeclared.now) types.now base)) (told_length size)) }
 {
     match told_length(size) {
-        Some(length) => match cell_of(types, undeclared, cells, base) {
+        Some(length) => match cell_of(types, undeclared, bound, cells, base) {
             Some(element) => free_array_layout(length, element),
             None => None,
         },
@@ -222,22 +234,24 @@ fn array_of(
 }
 
 /// How a struct of these members is laid out, to which the module gives so many bytes: if each has
-/// a layout, is bound to nothing and can stay where it is.
+/// a layout, no binding where those with bindings have none, and can stay where it is.
 pub fn kept_struct(
     types: &UniqueArena<Type_>,
     undeclared: &[bool],
+    bound: bool,
     cells: &[Option<Layout>],
     members: &[StructMember],
     span: u32,
 ) -> Option<Layout>
-    requires told { TellMembers undeclared.now types.now members.now cells.now }
-    ensures { result ≡ option_map capped (kept_struct
-        (layout_at (written_rule undeclared.now) types.now) members.now span) }
+    requires told { TellMembers (written_rule bound undeclared.now) types.now members.now
+        cells.now }
+    ensures { result ≡ option_map capped (kept_struct bound
+        (layout_at (written_rule bound undeclared.now) types.now) members.now span) }
 {
     let mut before: Option<Placed> = None;
     let mut alignment: u32 = 0;
     for member in members {
-        let placed = match member_of(types, undeclared, cells, member) {
+        let placed = match member_of(types, undeclared, bound, cells, member) {
             Some(placed) => placed,
             None => return None,
         };
@@ -256,18 +270,20 @@ pub fn kept_struct(
 fn member_of(
     types: &UniqueArena<Type_>,
     undeclared: &[bool],
+    bound: bool,
     cells: &[Option<Layout>],
     member: &StructMember,
 ) -> Option<Placed>
-    requires told { TellsLayout undeclared.now types.now cells.now member.now.ty }
-    ensures placed { result ≡ option_map capped_member (placed_member
-        (layout_at (written_rule undeclared.now) types.now) member.now) }
+    requires told { TellsLayout (written_rule bound undeclared.now) types.now cells.now
+        member.now.ty }
+    ensures placed { result ≡ option_map capped_member (placed_member bound
+        (layout_at (written_rule bound undeclared.now) types.now) member.now) }
     ensures aligned { IfSome result (λ k. IsAlignment k.layout.alignment) }
 {
-    if member.binding.is_some() {
+    if !bound && member.binding.is_some() {
         return None;
     }
-    match cell_of(types, undeclared, cells, member.ty) {
+    match cell_of(types, undeclared, bound, cells, member.ty) {
         Some(layout) => Some(Placed {
             layout,
             offset: member.offset,
@@ -281,17 +297,20 @@ fn member_of(
 pub fn misplaced(
     types: &UniqueArena<Type_>,
     undeclared: &[bool],
+    bound: bool,
     cells: &[Option<Layout>],
     members: &[StructMember],
 ) -> Option<Misplaced>
-    requires told { TellMembers undeclared.now types.now members.now cells.now }
+    requires told { TellMembers (written_rule bound undeclared.now) types.now members.now
+        cells.now }
     ensures { result ≡ option_and_then (first_fault None None)
-        (placed_members (layout_at (written_rule undeclared.now) types.now) members.now) }
+        (placed_members bound (layout_at (written_rule bound undeclared.now) types.now)
+        members.now) }
 {
     let mut before: Option<Placed> = None;
     let mut found: Option<Misplaced> = None;
     for member in members {
-        let placed = match member_of(types, undeclared, cells, member) {
+        let placed = match member_of(types, undeclared, bound, cells, member) {
             Some(placed) => placed,
             None => return None,
         };

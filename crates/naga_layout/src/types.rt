@@ -12,7 +12,7 @@ ghost use Rattle.naga_layout.specs.Types.{StandInOrder, component_number, has_at
 ghost use Rattle.naga_layout.specs.Types.{told, user_size};
 ghost use Rattle.naga_layout.specs.Types.{has_size, inner_layout_by, is_number, kept_struct};
 ghost use Rattle.naga_layout.specs.Types.{layout_at, parts_before, placed_member, told_length};
-ghost use Rattle.naga_layout.specs.Types.{user_rule};
+ghost use Rattle.naga_layout.specs.Types.{told_rule, user_rule};
 
 use naga_ir::{
     ArraySize, Handle, Scalar, ScalarKind, StructMember, Type_, TypeInner, UniqueArena, VectorSize,
@@ -62,7 +62,21 @@ pub fn type_layout(types: &UniqueArena<Type_>, handle: Handle<Type_>) -> Option<
     requires there { handle < length types.now }
     ensures { result ≡ option_map told (layout_at user_rule types.now handle) }
 {
-    match layout_afresh(types, handle) {
+    layout_told(types, handle, false)
+}
+
+/// The same, where `bound` says whether structs that have members with bindings are laid out too,
+/// as they are in a text of a module that keeps their offsets.
+pub fn layout_told(
+    types: &UniqueArena<Type_>,
+    handle: Handle<Type_>,
+    bound: bool,
+) -> Option<TypeLayout>
+    requires ordered { StandInOrder types.now }
+    requires there { handle < length types.now }
+    ensures { result ≡ option_map told (layout_at (told_rule bound) types.now handle) }
+{
+    match layout_afresh(types, handle, bound) {
         Some(layout) => Some(TypeLayout {
             align: layout.alignment,
             size: user_size(layout.size),
@@ -88,10 +102,12 @@ fn is_struct(inner: &TypeInner) -> bool {
 fn look_up(
     types: &UniqueArena<Type_>,
     handle: Handle<Type_>,
+    bound: bool,
     seen: &[Option<Known>],
 ) -> Option<Option<Layout>>
-    requires told { TellSeen types.now seen.now }
-    ensures { IfSome result (λ l. l ≡ option_map capped (layout_at user_rule types.now handle)) }
+    requires told { TellSeen bound types.now seen.now }
+    ensures { IfSome result (λ l. l ≡ option_map capped
+        (layout_at (told_rule bound) types.now handle)) }
 {
     if seen.is_empty() {
         return None;
@@ -112,13 +128,14 @@ fn look_up(
 fn remember(
     types: &UniqueArena<Type_>,
     handle: Handle<Type_>,
+    bound: bool,
     layout: Option<Layout>,
     seen: &mut [Option<Known>],
 )
     requires there { handle < length types.now }
-    requires told { TellSeen types.now seen.old }
-    requires layout { layout ≡ option_map capped (layout_at user_rule types.now handle) }
-    ensures { TellSeen types.now seen.new }
+    requires told { TellSeen bound types.now seen.old }
+    requires layout { layout ≡ option_map capped (layout_at (told_rule bound) types.now handle) }
+    ensures { TellSeen bound types.now seen.new }
 {
     if seen.is_empty() || !is_struct(&types[handle].inner) {
         return;
@@ -131,13 +148,17 @@ fn remember(
 }
 
 /// How the type at a handle is laid out, with cells that remember nothing yet, on the stack.
-fn layout_afresh(types: &UniqueArena<Type_>, handle: Handle<Type_>) -> Option<Layout>
+fn layout_afresh(
+    types: &UniqueArena<Type_>,
+    handle: Handle<Type_>,
+    bound: bool,
+) -> Option<Layout>
     requires ordered { StandInOrder types.now }
     requires there { handle < length types.now }
-    ensures { result ≡ option_map capped (layout_at user_rule types.now handle) }
+    ensures { result ≡ option_map capped (layout_at (told_rule bound) types.now handle) }
 {
     let mut seen: [Option<Known>; 256] = [None; 256];
-    remembered_layout(types, handle, seen.as_mut_slice())
+    remembered_layout(types, handle, bound, seen.as_mut_slice())
 }
 
 /// The size as users are told it: none that has more than 32 bits.
@@ -256,21 +277,22 @@ pub(crate) fn laid_matrix(columns: VectorSize, rows: VectorSize, scalar: Scalar)
 fn remembered_layout(
     types: &UniqueArena<Type_>,
     handle: Handle<Type_>,
+    bound: bool,
     seen: &mut [Option<Known>],
 ) -> Option<Layout>
     requires ordered { StandInOrder types.now }
     requires there { handle < length types.now }
-    requires told { TellSeen types.now seen.old }
-    ensures told { TellSeen types.now seen.new }
-    ensures layout { result ≡ option_map capped (layout_at user_rule types.now handle) }
+    requires told { TellSeen bound types.now seen.old }
+    ensures told { TellSeen bound types.now seen.new }
+    ensures layout { result ≡ option_map capped (layout_at (told_rule bound) types.now handle) }
     ensures aligned { IfSome result (λ l. IsAlignment l.alignment) }
 {
     if is_struct(&types[handle].inner) {
-        if let Some(layout) = look_up(types, handle, seen) {
+        if let Some(layout) = look_up(types, handle, bound, seen) {
             return layout;
         }
     }
-    new_layout(types, handle, seen)
+    new_layout(types, handle, bound, seen)
 }
 
 /// The same of one that no cell remembers; a struct is remembered then.
@@ -278,17 +300,18 @@ fn remembered_layout(
 fn new_layout(
     types: &UniqueArena<Type_>,
     handle: Handle<Type_>,
+    bound: bool,
     seen: &mut [Option<Known>],
 ) -> Option<Layout>
     requires ordered { StandInOrder types.now }
     requires there { handle < length types.now }
-    requires told { TellSeen types.now seen.old }
-    ensures told { TellSeen types.now seen.new }
-    ensures layout { result ≡ option_map capped (layout_at user_rule types.now handle) }
+    requires told { TellSeen bound types.now seen.old }
+    ensures told { TellSeen bound types.now seen.new }
+    ensures layout { result ≡ option_map capped (layout_at (told_rule bound) types.now handle) }
     ensures aligned { IfSome result (λ l. IsAlignment l.alignment) }
 {
-    let layout = remembered_inner(types, handle, &types[handle].inner, seen);
-    remember(types, handle, layout, seen);
+    let layout = remembered_inner(types, handle, &types[handle].inner, bound, seen);
+    remember(types, handle, bound, layout, seen);
     layout
 }
 
@@ -298,15 +321,16 @@ fn remembered_inner(
     types: &UniqueArena<Type_>,
     here: Handle<Type_>,
     inner: &TypeInner,
+    bound: bool,
     seen: &mut [Option<Known>],
 ) -> Option<Layout>
     requires ordered { StandInOrder types.now }
     requires there { here < length types.now }
-    requires told { TellSeen types.now seen.old }
+    requires told { TellSeen bound types.now seen.old }
     requires before { IsTrue (parts_before here inner.now) }
-    ensures told { TellSeen types.now seen.new }
+    ensures told { TellSeen bound types.now seen.new }
     ensures layout { result ≡ option_map capped
-        (inner_layout_by true (layout_at user_rule types.now) inner.now) }
+        (inner_layout_by (told_rule bound) (layout_at (told_rule bound) types.now) inner.now) }
     ensures aligned { IfSome result (λ l. IsAlignment l.alignment) }
 {
     match inner {
@@ -319,9 +343,11 @@ fn remembered_inner(
             scalar,
         } => laid_matrix(*columns, *rows, *scalar),
         TypeInner::Array { base, size, stride } => {
-            remembered_array(types, here, *base, *size, *stride, seen)
+            remembered_array(types, here, *base, *size, *stride, bound, seen)
         }
-        TypeInner::Struct { members, span } => remembered_struct(types, here, members, *span, seen),
+        TypeInner::Struct { members, span } => {
+            remembered_struct(types, here, members, *span, bound, seen)
+        }
         _ => None,
     }
 }
@@ -334,20 +360,21 @@ fn remembered_array(
     base: Handle<Type_>,
     size: ArraySize,
     stride: u32,
+    bound: bool,
     seen: &mut [Option<Known>],
 ) -> Option<Layout>
     requires ordered { StandInOrder types.now }
     requires there { here < length types.now }
-    requires told { TellSeen types.now seen.old }
+    requires told { TellSeen bound types.now seen.old }
     requires before { base < here }
-    ensures told { TellSeen types.now seen.new }
+    ensures told { TellSeen bound types.now seen.new }
     ensures layout { result ≡ option_map capped (option_and_then
-        (λ length. option_and_then (kept_array stride length) (layout_at user_rule types.now base))
-        (told_length size)) }
+        (λ length. option_and_then (kept_array stride length)
+        (layout_at (told_rule bound) types.now base)) (told_length size)) }
     ensures aligned { IfSome result (λ l. IsAlignment l.alignment) }
 {
     match told_length(size) {
-        Some(length) => match remembered_layout(types, base, seen) {
+        Some(length) => match remembered_layout(types, base, bound, seen) {
             Some(element) => array_layout(stride, length, element),
             None => None,
         },
@@ -362,21 +389,22 @@ fn remembered_struct(
     here: Handle<Type_>,
     members: &[StructMember],
     span: u32,
+    bound: bool,
     seen: &mut [Option<Known>],
 ) -> Option<Layout>
     requires ordered { StandInOrder types.now }
     requires there { here < length types.now }
-    requires told { TellSeen types.now seen.old }
+    requires told { TellSeen bound types.now seen.old }
     requires before { IsTrue (list_all (λ k. nat_lt k.ty here) members.now) }
-    ensures told { TellSeen types.now seen.new }
+    ensures told { TellSeen bound types.now seen.new }
     ensures layout { result ≡ option_map capped
-        (kept_struct (layout_at user_rule types.now) members.now span) }
+        (kept_struct bound (layout_at (told_rule bound) types.now) members.now span) }
     ensures aligned { IfSome result (λ l. IsAlignment l.alignment) }
 {
     let mut before: Option<Placed> = None;
     let mut alignment: u32 = 0;
     for member in members {
-        let placed = match remembered_member(types, here, member, seen) {
+        let placed = match remembered_member(types, here, member, bound, seen) {
             Some(placed) => placed,
             None => return None,
         };
@@ -392,27 +420,28 @@ fn remembered_struct(
     }
 }
 
-/// A member with its type's layout, if that is laid out and the member has no binding.
+/// A member with its type's layout, if that is laid out, and a member with this binding may be.
 #[cycle(layouts)]
 fn remembered_member(
     types: &UniqueArena<Type_>,
     here: Handle<Type_>,
     member: &StructMember,
+    bound: bool,
     seen: &mut [Option<Known>],
 ) -> Option<Placed>
     requires ordered { StandInOrder types.now }
     requires there { here < length types.now }
-    requires told { TellSeen types.now seen.old }
+    requires told { TellSeen bound types.now seen.old }
     requires before { member.now.ty < here }
-    ensures told { TellSeen types.now seen.new }
+    ensures told { TellSeen bound types.now seen.new }
     ensures placed { result ≡ option_map capped_member
-        (placed_member (layout_at user_rule types.now) member.now) }
+        (placed_member bound (layout_at (told_rule bound) types.now) member.now) }
     ensures aligned { IfSome result (λ k. IsAlignment k.layout.alignment) }
 {
-    if member.binding.is_some() {
+    if !bound && member.binding.is_some() {
         return None;
     }
-    match remembered_layout(types, member.ty, seen) {
+    match remembered_layout(types, member.ty, bound, seen) {
         Some(layout) => Some(Placed {
             layout,
             offset: member.offset,

@@ -2,9 +2,9 @@
 use Rattle.std.proofs.Common.{◌≡◌, ℕ, ◌+◌, ◌-◌, ◌<◌, ◌≤◌, Bool, true, false, Option, Some, None}
 use Rattle.std.proofs.Common.{refl, sym, ap, ap₂, ◌∙◌, subst, List, length, slice_get, nat_lt, arith}
 use Rattle.std.proofs.Common.{inl, inr, not, MatchOption, Vec, Global}
-use Rattle.std.specs.Prelude.{◌⊎◌, IfNone, IfSome, IsTrue, if◌then◌else◌}
+use Rattle.std.specs.Prelude.{◌&&◌, ◌||◌, ◌⊎◌, IfNone, IfSome, IsFalse, IsTrue, if◌then◌else◌}
 use Rattle.std.specs.Option.{is_none, is_some, option_and_then, option_or}
-use Rattle.std.proofs.lemmas.Bool.{false≢true, le-ltb, lt-ltb}
+use Rattle.std.proofs.lemmas.Bool.{and_parts, false≢true, le-ltb, lt-ltb}
 use Rattle.std.proofs.lemmas.Option.{slice_get_within}
 use Rattle.module_semantics.proofs.FunctionNumbers.{entry_point_among, function_among, which_function}
 use Rattle.module_semantics.proofs.FunctionNumbers.{IsNumbered, OfEntryPoint, OfFunction}
@@ -21,8 +21,9 @@ use Rattle.module_semantics.specs.DeclarationForms.IsInitialiser.{OfOverride as 
 use Rattle.module_semantics.specs.DeclarationForms.IsInitialiser.{OfVariable as VariableInitialiser}
 use Rattle.module_semantics.specs.DeclarationForms.IsMemberBinding.{OfMember as MemberBinding}
 use Rattle.module_semantics.specs.DeclarationForms.IsIoBinding.{OfArgument, OfResult}
-use Rattle.module_semantics.specs.Layouts.{HasOtherStride, IsMisplaced, concerned_members}
-use Rattle.module_semantics.specs.Layouts.{concerned_of, concerned_only, layout_in, module_rule}
+use Rattle.module_semantics.specs.Layouts.{HasOtherStride, IsMisplaced, are_to_keep, concerned_members}
+use Rattle.module_semantics.specs.Layouts.{concerned_of, concerned_only, keeps_bindings, layout_in, module_rule}
+use Rattle.module_semantics.specs.Layouts.{placed_in}
 use Rattle.module_semantics.specs.Undeclared.{is_declared, is_spellable, is_undeclared}
 use Rattle.module_semantics.specs.ExpressionForms.{global_has_form}
 use Rattle.naga_info.specs.declared.info.TypeResolution.TheVariants.{Handle}
@@ -41,7 +42,7 @@ use Rattle.naga_ir.specs.declared.types.Type_.{Type_}
 use Rattle.naga_ir.specs.declared.types.TypeInner.TheVariants as inner
 use Rattle.naga_layout.proofs.Concerned.{concerned_laid, laid_concerned, none_stands}
 use Rattle.naga_layout.proofs.Left.{all_aligned}
-use Rattle.naga_layout.specs.Types.{arrays_are_kept, kept_struct, placed_members}
+use Rattle.naga_layout.specs.Types.{arrays_are_kept, kept_struct}
 use Rattle.naga_naming.specs.Reset.{members_of}
 use Rattle.naga_refusals.specs.declared.construct.Construct.{Construct}
 use Rattle.naga_refusals.specs.declared.construct.Construct.TheVariants as construct
@@ -69,7 +70,7 @@ use Rattle.naga_tables.specs.Declarations.{concerned_among}
 use Rattle.naga_tables.proofs.FirstMisplaced.{first_misplaced}
 use Rattle.wgsl_layout.proofs.FirstFaults.{fault_stands, none_kept}
 use Rattle.wgsl_layout.specs.Faults.{StandsAmong, first_fault}
-use Rattle.wgsl_layout.specs.Members.{is_concerned}
+use Rattle.wgsl_layout.specs.Members.{are_kept, is_concerned}
 use Rattle.wgsl_layout.specs.declared.layouts.Placed.{Placed}
 use Rattle.wgsl_layout.specs.declared.members.Misplaced.{Misplaced}
 
@@ -281,13 +282,15 @@ module _ (m : Module) where
     }
 
     stride_in : (ty : ℕ) (ks : List Placed) → concerned_among m (members_of t.inner) ≡ Some ks →
+        IsFalse (keeps_bindings m (members_of t.inner)) →
         (i : ℕ) (s : StructMember) → slice_get (members_of t.inner) i ≡ Some s → IsOtherStride m s ty →
         HasOtherStride m h ty
-    stride_in ty ks concerned i s there other = record {
+    stride_in ty ks concerned free i s there other = record {
       members = ks;
       concerned = concerned_is ∙ concerned;
       whole = t;
       at = at;
+      free = free;
       number = i;
       member = s;
       there = there;
@@ -307,8 +310,8 @@ module _ (m : Module) where
           OfMember of.0 (MemberBinding h i t s of.0 at declared there of.1) of.2
   types_lack h t at it (declared, OfPlace ks fault formed concerned stands first is) =
       OfOffsets h fault (misplaced_in h t at declared fault ks concerned stands) is
-  types_lack h t at it (declared, OfArray ks ty formed concerned kept (i, s, there, earlier, other) is) =
-      OfStride h ty (stride_in h t at declared ty ks concerned i s there other) is
+  types_lack h t at it (declared, OfArray ks ty formed concerned free kept (i, s, there, earlier, other) is) =
+      OfStride h ty (stride_in h t at declared ty ks concerned free i s there other) is
 
   -- the type or the initialiser of a declaration
   values_lack : (ty : ℕ) (init : Option ℕ) (it : Construct) → IsDeclaredType m ty →
@@ -465,7 +468,8 @@ module _ (m : Module) where
         let both : Some other.whole ≡ Some found.0 = sym other.at ∙ found.1 in
         let same : other.whole ≡ found.0 = cc in
         let there = ap (λ (t : Type_). slice_get (members_of t.inner) other.number) (sym same) ∙ other.there in
-        let kept = found.3.strides other.members found.2 other.number other.member there in
+        let free = ap (λ (t : Type_). keeps_bindings m (members_of t.inner)) (sym same) ∙ other.free in
+        let kept = found.3.strides other.members found.2 free other.number other.member there in
         false≢true (sym (ap (arrays_are_kept (module_rule m) m.types) other.is ∙ other.other) ∙ kept)
 
     io_formed : (number : ℕ) (f : Function) → IsNumbered m number f → IoHasForm f
@@ -527,46 +531,63 @@ module _ (f : Function) (arguments : List FunctionArgument) (are : arguments ≡
 
 -- ---- the members of a struct
 module _ (m : Module) (members : List StructMember) where
+  abbrev bindings : Bool
+  bindings = keeps_bindings m members
+
   -- all that are placed are concerned, or not
   among : (ks : List Placed) → concerned_among m members ≡ Some ks →
-      (placed_members (layout_in m) members ≡ Some ks) × (is_concerned ks ≡ true)
-  among ks concerned = by (placed_members (layout_in m) members) concerned
+      (placed_in m members ≡ Some ks) × (is_concerned ks ≡ true)
+      × ((not bindings || are_kept None ks) ≡ true)
+  among ks concerned = by (placed_in m members) concerned
     where
-      by : (o : Option (List Placed)) → option_and_then concerned_only o ≡ Some ks →
-          (o ≡ Some ks) × (is_concerned ks ≡ true)
+      by : (o : Option (List Placed)) → option_and_then (concerned_only bindings) o ≡ Some ks →
+          (o ≡ Some ks) × (is_concerned ks ≡ true) × ((not bindings || are_kept None ks) ≡ true)
       by None concerned = absurd cc
-      by (Some ps) concerned = at (is_concerned ps) refl concerned
+      by (Some ps) concerned = at (are_to_keep bindings ps) refl concerned
         where
-          at : (b : Bool) → is_concerned ps ≡ b → (if b then Some ps else None) ≡ Some ks → (Some ps ≡ Some ks)
-              × (is_concerned ks ≡ true)
+          at : (b : Bool) → are_to_keep bindings ps ≡ b → (if b then Some ps else None) ≡ Some ks →
+              (Some ps ≡ Some ks) × (is_concerned ks ≡ true) × ((not bindings || are_kept None ks) ≡ true)
           at false is concerned = absurd cc
           at true is concerned =
               let same : ps ≡ ks = cc in
-              (concerned, subst (λ ks. is_concerned ks ≡ true) same is)
+              let parts = and_parts (not bindings || are_kept None ks) (is_concerned ks)
+              (subst (λ ks. are_to_keep bindings ks ≡ true) same is) in
+              (concerned, parts.1, parts.0)
 
-  from_placed : (ks : List Placed) → placed_members (layout_in m) members ≡ Some ks → is_concerned ks ≡ true →
-      concerned_among m members ≡ Some ks
-  from_placed ks are is =
-      ap (option_and_then concerned_only) are ∙ ap (λ b. if b then Some ks else None) is
+  from_placed : (ks : List Placed) → placed_in m members ≡ Some ks → is_concerned ks ≡ true →
+      bindings ≡ false → concerned_among m members ≡ Some ks
+  from_placed ks are is free =
+      ap (option_and_then (concerned_only bindings)) are
+      ∙ ap₂ (λ a b. if (not a || are_kept None ks) && b then Some ks else None) free is
+
+  -- there are bindings, so that one that is concerned is kept
+  pub by_bindings : FindsMember m members None → true ≡ bindings → StructHasForm m members
+  by_bindings formed bound = record {
+    each = formed;
+    offsets = λ ks concerned fault stands.
+        none_stands ks (ap (λ b. not b || are_kept None ks) bound ∙ (among ks concerned).2) fault stands;
+    strides = λ ks concerned free i s there. absurd (false≢true (sym free ∙ sym bound));
+  }
 
   -- a fault is found
-  pub by_fault : (fault : Misplaced) → FindsMember m members None →
-      Some fault ≡ option_and_then (first_fault None None) (placed_members (layout_in m) members) →
+  pub by_fault : (fault : Misplaced) → FindsMember m members None → false ≡ bindings →
+      Some fault ≡ option_and_then (first_fault None None) (placed_in m members) →
       IsUnsupportedStruct m members (misplaced_construct fault)
-  by_fault fault formed found = by (placed_members (layout_in m) members) refl (sym found)
+  by_fault fault formed free found = by (placed_in m members) refl (sym found)
     where
-      by : (o : Option (List Placed)) → placed_members (layout_in m) members ≡ o →
+      by : (o : Option (List Placed)) → placed_in m members ≡ o →
           option_and_then (first_fault None None) o ≡ Some fault →
           IsUnsupportedStruct m members (misplaced_construct fault)
       by None are found = absurd cc
       by (Some ks) are found =
           let stands = fault_stands ks fault found in
-          OfPlace ks fault formed (from_placed ks are stands.0) stands.1 (first_misplaced ks fault found) refl
+          OfPlace ks fault formed (from_placed ks are stands.0 (sym free)) stands.1 (first_misplaced ks fault found)
+          refl
 
   -- none is found
   module _ (finds : FindsMember m members None)
-      (none : None ≡ option_and_then (first_fault None None) (placed_members (layout_in m) members)) where
-    first_none : (ks : List Placed) → placed_members (layout_in m) members ≡ Some ks → first_fault None None ks ≡ None
+      (none : None ≡ option_and_then (first_fault None None) (placed_in m members)) where
+    first_none : (ks : List Placed) → placed_in m members ≡ Some ks → first_fault None None ks ≡ None
     first_none ks are = sym (none ∙ ap (option_and_then (first_fault None None)) are)
 
     no_fault : (ks : List Placed) → concerned_among m members ≡ Some ks → (fault : Misplaced) → StandsAmong fault ks → ⊥
@@ -580,26 +601,26 @@ module _ (m : Module) (members : List StructMember) where
     by_strides kept = record {
       each = finds;
       offsets = no_fault;
-      strides = λ ks concerned i s there. kept i s there;
+      strides = λ ks concerned free i s there. kept i s there;
     }
 
     module _ (span : ℕ) where
-      pub by_none : false ≡ is_some (kept_struct (layout_in m) members span) → StructHasForm m members
+      pub by_none : false ≡ is_some (kept_struct m.keeps_bound_offsets (layout_in m) members span) → StructHasForm m members
       by_none unlaid = record {
         each = finds;
         offsets = no_fault;
-        strides = λ ks concerned i s there.
+        strides = λ ks concerned free i s there.
             let found = among ks concerned in
-            absurd (false≢true (unlaid ∙ concerned_laid (layout_in m) (all_aligned (module_rule m) m.types)
+            absurd (false≢true (unlaid ∙ concerned_laid m.keeps_bound_offsets (layout_in m) (all_aligned (module_rule m) m.types)
             members span ks found.0 found.1 (first_none ks found.0)));
       }
 
-    pub by_other : (span ty : ℕ) → FindsStride m members (Some ty) →
-        true ≡ is_some (kept_struct (layout_in m) members span) → IsUnsupportedStruct m members construct.ArrayStride
-    by_other span ty stride laid =
-        let placed = laid_concerned (layout_in m) members span (sym laid) in
-        let concerned = from_placed placed.placed placed.are placed.concerned in
-        OfArray placed.placed ty finds concerned (no_fault placed.placed concerned) stride refl
+    pub by_other : (span ty : ℕ) → FindsStride m members (Some ty) → false ≡ bindings →
+        true ≡ is_some (kept_struct m.keeps_bound_offsets (layout_in m) members span) → IsUnsupportedStruct m members construct.ArrayStride
+    by_other span ty stride free laid =
+        let placed = laid_concerned m.keeps_bound_offsets (layout_in m) members span (sym laid) in
+        let concerned = from_placed placed.placed placed.are placed.concerned (sym free) in
+        OfArray placed.placed ty finds concerned (sym free) (no_fault placed.placed concerned) stride refl
 
 -- ---- a struct that a text declares
 pub by_members : (m : Module) (ty : ℕ) (t : Type_) (members : Vec StructMember Global) (span : ℕ)

@@ -13,8 +13,8 @@ use Rattle.module_semantics.specs.DeclarationForms.{IsDeclaredType, IsInitialise
 use Rattle.module_semantics.specs.DeclarationForms.{IsIoBinding, binding_has_form, entry_point_numbered}
 use Rattle.module_semantics.specs.DeclarationForms.{stage_has_form}
 use Rattle.module_semantics.specs.FunctionNumbers.{all_functions}
-use Rattle.module_semantics.specs.Layouts.{HasOtherStride, IsMisplaced, concerned_only, layout_in}
-use Rattle.module_semantics.specs.Layouts.{module_rule}
+use Rattle.module_semantics.specs.Layouts.{HasOtherStride, IsMisplaced, concerned_only}
+use Rattle.module_semantics.specs.Layouts.{keeps_bindings, module_rule, placed_in}
 use Rattle.module_semantics.specs.Undeclared.{is_declared}
 use Rattle.naga_info.specs.declared.info.TypeResolution.TheVariants.{Handle}
 use Rattle.naga_ir.specs.declared.binding.Binding.{Binding}
@@ -28,7 +28,7 @@ use Rattle.naga_ir.specs.declared.module.Module.{Module}
 use Rattle.naga_ir.specs.declared.module.Override.{Override}
 use Rattle.naga_ir.specs.declared.types.StructMember.{StructMember}
 use Rattle.naga_ir.specs.declared.types.Type_.{Type_}
-use Rattle.naga_layout.specs.Types.{arrays_are_kept, placed_members}
+use Rattle.naga_layout.specs.Types.{arrays_are_kept}
 use Rattle.naga_naming.specs.Reset.{members_of}
 use Rattle.naga_refusals.specs.declared.construct.Construct.{Construct}
 use Rattle.naga_refusals.specs.declared.construct.Construct.TheVariants as construct
@@ -142,7 +142,8 @@ IsOtherStride m s ty = (ty ≡ s.ty) × IsFalse (arrays_are_kept (module_rule m)
 -- these members as the module places them, if a struct of them is concerned where a text declares
 -- it
 abbrev pub concerned_among : Module → List StructMember → Option (List Placed)
-concerned_among m members = option_and_then concerned_only (placed_members (layout_in m) members)
+concerned_among m members =
+    option_and_then (concerned_only (keeps_bindings m members)) (placed_in m members)
 
 -- the type of each member has arrays of WGSL's stride, or the first that has others is told
 abbrev pub FindsStride : Module → List StructMember → (ty : Option ℕ) → Type 0
@@ -162,18 +163,19 @@ FindsMisplaced ks =
     Finds ks (λ i k. own_fault (placed_before ks i) k ≡ None)
     (λ i k fault. own_fault (placed_before ks i) k ≡ Some fault)
 
--- the members of a struct have forms, and if the struct is concerned, each can stay where it is and
--- has arrays of WGSL's stride
+-- The members of a struct have forms, and if the struct is concerned, each can stay where it is;
+-- where no bindings are kept, each has arrays of WGSL's stride, too.
 pub record StructHasForm (m : Module) (members : List StructMember) : Type 0 where
   pub each : FindsMember m members None
   pub offsets : (ks : List Placed) → concerned_among m members ≡ Some ks →
       (fault : Misplaced) → StandsAmong fault ks → ⊥
   pub strides : (ks : List Placed) → concerned_among m members ≡ Some ks →
+      IsFalse (keeps_bindings m members) →
       (i : ℕ) (s : StructMember) → slice_get members i ≡ Some s →
       IsTrue (arrays_are_kept (module_rule m) m.types s.ty)
 
--- A member is refused; or none is, and a member can't stay where it is; or all can, and one has an
--- array of another stride. Of each the first is told.
+-- A member is refused; or none is, and a member can't stay where it is; or all can, no bindings are
+-- kept, and one has an array of another stride. Of each the first is told.
 pub data IsUnsupportedStruct (m : Module) (members : List StructMember) (it : Construct) : Type 0
   where
     OfFirst : FindsMember m members (Some it) → IsUnsupportedStruct m members it
@@ -182,7 +184,8 @@ pub data IsUnsupportedStruct (m : Module) (members : List StructMember) (it : Co
         FindsMisplaced ks (Some fault) → it ≡ misplaced_construct fault →
         IsUnsupportedStruct m members it
     OfArray : (ks : List Placed) (ty : ℕ) → FindsMember m members None →
-        concerned_among m members ≡ Some ks → ((fault : Misplaced) → StandsAmong fault ks → ⊥) →
+        concerned_among m members ≡ Some ks → IsFalse (keeps_bindings m members) →
+        ((fault : Misplaced) → StandsAmong fault ks → ⊥) →
         FindsStride m members (Some ty) → it ≡ construct.ArrayStride →
         IsUnsupportedStruct m members it
 

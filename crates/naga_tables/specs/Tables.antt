@@ -22,6 +22,7 @@ use Rattle.naga_ir.specs.declared.module.Module.{Module}
 use Rattle.naga_ir.specs.declared.module.SpecialTypes.{SpecialTypes}
 use Rattle.naga_ir.specs.declared.types.TypeInner.{TypeInner}
 use Rattle.naga_ir.specs.declared.types.TypeInner.TheVariants as inner
+use Rattle.naga_layout.specs.Bindings.{TellBindings}
 use Rattle.naga_layout.specs.Tables.{cell_at, mark_at}
 use Rattle.naga_layout.specs.Types.{arrays_are_kept}
 use Rattle.naga_refusals.specs.declared.construct.Construct.{Construct}
@@ -35,8 +36,9 @@ use Rattle.naga_tables.specs.Refusals.{global_refusal}
 
 -- The tables, with a cell for each of the module's own expressions or for each type: by what
 -- expressions are refused, and by which they are written; which structs no text declares, which
--- types name one, which are spelled, how each is laid out, and whether the arrays that each is
--- made of have the stride that WGSL gives them.
+-- types name one, which are spelled, how each is laid out, whether the arrays that each is made of
+-- have the stride that WGSL gives them, and, where the module keeps the offsets of bound structs,
+-- which have a struct in them of which a member has a binding.
 pub record Tables : Type 0 where
   pub global_refusals : List (Option Construct)
   pub representatives : List ℕ
@@ -45,6 +47,7 @@ pub record Tables : Type 0 where
   pub type_forms : List Bool
   pub layouts : List (Option Layout)
   pub strides : List Bool
+  pub bindings : List Bool
 
 -- ---- types
 -- the structs that no text declares
@@ -114,6 +117,10 @@ TellsLayouts m cells = (h : ℕ) → cell_at cells h ≡ option_map capped (layo
 abbrev pub TellsStrides : Module → List Bool → Type 0
 TellsStrides m kept = (h : ℕ) → mark_at kept h ≡ arrays_are_kept (module_rule m) m.types h
 
+-- the marks tell which types have bindings, where the module keeps the offsets of bound structs
+abbrev pub TellsBindings : Module → (marks : List Bool) → Type 0
+TellsBindings m marks = IsTrue m.keeps_bound_offsets → TellBindings m.types marks
+
 -- ---- own expressions
 -- what a cell tells, where one without a cell is no constant
 abbrev pub refusal_at : (cells : List (Option Construct)) → (h : ℕ) → Option Construct
@@ -166,3 +173,4 @@ pub record AreTablesOf (m : Module) (t : Tables) : Type 0 where
   pub type_forms : MarksTypeForms m t.type_forms
   pub layouts : TellsLayouts m t.layouts
   pub strides : TellsStrides m t.strides
+  pub bindings : TellsBindings m t.bindings

@@ -132,7 +132,8 @@ fn unsupported_in_type(
 }
 
 /// Of a struct with these members: the first type or binding without a form, or why one can't stay
-/// where it is, or the first type with arrays of another stride than WGSL's.
+/// where it is, or the first type with arrays of another stride than WGSL's. Where there are
+/// bindings that are kept, neither of the last two is a reason: the offsets are kept if all can be.
 fn unsupported_in_struct(
     module: &Module,
     tables: &ModuleTables,
@@ -145,6 +146,9 @@ fn unsupported_in_struct(
 {
     if let Some(unsupported) = unsupported_in_members(module, tables, members) {
         return Some(unsupported);
+    }
+    if tables.keeps_bindings(module, members) {
+        return None;
     }
     if let Some(fault) = tables.misplaced(module, members) {
         return Some(misplaced_construct(fault));

@@ -5,20 +5,20 @@ ghost use Rattle.std.specs.Prelude.{length, replicate};
 ghost use Rattle.std.specs.Option.{is_some, option_and_then, option_map};
 ghost use Rattle.indexmap.specs.IndexMap.{values};
 ghost use Rattle.module_semantics.specs.AlikeTypes.{has_type_form};
-ghost use Rattle.module_semantics.specs.Layouts.{layout_in, module_rule};
+ghost use Rattle.module_semantics.specs.Layouts.{keeps_bindings, layout_in, module_rule, placed_in};
 ghost use Rattle.module_semantics.specs.Undeclared.{handle_names_undeclared, is_spellable};
 ghost use Rattle.module_semantics.specs.Undeclared.{is_undeclared, names_undeclared};
 ghost use Rattle.naga_info.specs.declared.info.TypeResolution.TheVariants.{Handle as OfHandle};
 ghost use Rattle.naga_ir.specs.Operands.{expression_operands};
 ghost use Rattle.naga_layout.specs.Tables.{cell_at, mark_at};
-ghost use Rattle.naga_layout.specs.Types.{arrays_are_kept, kept_struct, placed_members};
+ghost use Rattle.naga_layout.specs.Types.{arrays_are_kept, kept_struct};
 ghost use Rattle.naga_tables.specs.Marks.{MarksAlso, is_marked};
 ghost use Rattle.naga_tables.specs.Refusals.{constant_refusal, constant_refusal_over};
 ghost use Rattle.naga_tables.specs.Refusals.{first_refusal, global_refusal, global_refusal_over};
 ghost use Rattle.naga_tables.specs.Refusals.{type_refusal, unspelled};
 ghost use Rattle.naga_tables.specs.Tables.{AreRepresentatives, AreTablesOf, ItemsStandInOrder};
 ghost use Rattle.naga_tables.specs.Tables.{MarksNaming, MarksTypeForms, MarksUndeclared};
-ghost use Rattle.naga_tables.specs.Tables.{TellsLayouts, TellsRefusals, TellsStrides};
+ghost use Rattle.naga_tables.specs.Tables.{TellsBindings, TellsLayouts, TellsRefusals, TellsStrides};
 ghost use Rattle.naga_tables.specs.Tables.{is_marked_over, is_marked_type, refusal_at};
 ghost use Rattle.naga_tables.specs.Tables.{representative_at};
 ghost use Rattle.naga_tables.specs.Tables.{item_has_type_form, representative_over, type_form_over};
@@ -37,7 +37,7 @@ use naga_info::TypeResolution;
 use naga_ir::{
     Constant, Expression, Handle, ItemIndex, Module, SpecialTypes, StructMember, Type_, TypeInner,
 };
-use naga_layout::{kept_struct, layouts_of, strides_of};
+use naga_layout::{bindings_of, have_bindings, kept_struct, layouts_of, strides_of};
 use naga_refusals::Construct;
 use std::alloc::{AllocError, Global};
 use std::marker::Model;
@@ -45,9 +45,10 @@ use wgsl_layout::{Layout, Misplaced};
 
 /// What is asked of a module again and again while its text is decided and written: by what its
 /// own expressions are refused, and by which others they are written; which structs no text
-/// declares, which types name one, and which types have a form; how types are laid out, and
-/// whether arrays have the stride that WGSL gives them. Each is looked up in one step, where the
-/// module itself would be searched.
+/// declares, which types name one, and which types have a form; how types are laid out, whether
+/// arrays have the stride that WGSL gives them, and, where the module keeps the offsets of bound
+/// structs, which types have a struct in them of which a member has a binding. Each is looked up in
+/// one step, where the module itself would be searched.
 #[derive(Debug, Drop)]
 pub struct ModuleTables {
     global_refusals: Vec<Option<Construct>>,
@@ -57,6 +58,7 @@ pub struct ModuleTables {
     type_forms: Vec<bool>,
     layouts: Vec<Option<Layout>>,
     strides: Vec<bool>,
+    bindings: Vec<bool>,
 }
 
 /// Contracts see them as lists, of one cell for each own expression or for each type.
@@ -73,6 +75,7 @@ impl Model for ModuleTables {
       type_forms = t.type_forms.items;
       layouts = t.layouts.items;
       strides = t.strides.items;
+      bindings = t.bindings.items;
     } };
 }
 
@@ -80,8 +83,9 @@ impl ModuleTables {
     /// Those of a module, in one pass over the structs that WGSL's own functions give, four over
     /// its types, of which one goes through the members of structs too, and two over its own
     /// expressions. It takes memory for five tables of a cell for each type and two of one for each
-    /// expression, and none where there is none. What items are made of stands before them, and the
-    /// structs that no text declares are there, as it is in a module that is accepted.
+    /// expression, and none where there is none; one more such pass and table of types where the
+    /// module keeps the offsets of bound structs. What items are made of stands before them, and
+    /// the structs that no text declares are there, as it is in a module that is accepted.
     pub fn of(alloc: Global, module: &Module) -> Result<ModuleTables, AllocError>
         requires ordered { ItemsStandInOrder «module».now }
         ensures { IfOk result (AreTablesOf «module».now) }
@@ -93,6 +97,7 @@ impl ModuleTables {
         let representatives = representatives_of(alloc, module)?;
         let layouts = layouts(alloc, module, &undeclared)?;
         let strides = strides(alloc, module, &undeclared, &layouts)?;
+        let bindings = bindings(alloc, module)?;
         Ok(ModuleTables {
             global_refusals,
             representatives,
@@ -101,6 +106,7 @@ impl ModuleTables {
             type_forms,
             layouts,
             strides,
+            bindings,
         })
     }
 
@@ -213,20 +219,32 @@ impl ModuleTables {
     pub(crate) fn misplaced(&self, module: &Module, members: &[StructMember]) -> Option<Misplaced>
         requires tables { AreTablesOf «module».now self.now }
         ensures { result ≡ option_and_then (first_fault None None)
-            (placed_members (layout_in «module».now) members.now) }
+            (placed_in «module».now members.now) }
     {
-        naga_layout::misplaced(&module.types, &self.undeclared, &self.layouts, members)
+        let bound = module.keeps_bound_offsets;
+        naga_layout::misplaced(&module.types, &self.undeclared, bound, &self.layouts, members)
+    }
+
+    /// Whether the module keeps the offsets of bound structs, and one of these members has a
+    /// binding, or is of a type with a struct in it that has such a member.
+    pub(crate) fn keeps_bindings(&self, module: &Module, members: &[StructMember]) -> bool
+        requires tables { AreTablesOf «module».now self.now }
+        ensures { result ≡ keeps_bindings «module».now members.now }
+    {
+        module.keeps_bound_offsets && have_bindings(&module.types, &self.bindings, members)
     }
 
     /// Whether a struct of these members, that a text declares, has a layout: whether their offsets
     /// are to be kept, and can be.
     pub(crate) fn keeps_offsets(&self, module: &Module, members: &[StructMember], span: u32) -> bool
         requires tables { AreTablesOf «module».now self.now }
-        ensures { result ≡ is_some (kept_struct (layout_in «module».now) members.now span) }
+        ensures { result ≡ is_some (kept_struct «module».now.keeps_bound_offsets
+            (layout_in «module».now) members.now span) }
     {
         kept_struct(
             &module.types,
             &self.undeclared,
+            module.keeps_bound_offsets,
             &self.layouts,
             members,
             span,
@@ -245,7 +263,7 @@ fn layouts(
     requires undeclared { MarksUndeclared «module».now undeclared.now }
     ensures { IfOk result (λ cells. TellsLayouts «module».now cells.items) }
 {
-    layouts_of(alloc, &module.types, undeclared)
+    layouts_of(alloc, &module.types, undeclared, module.keeps_bound_offsets)
 }
 
 /// Which types have WGSL's stride wherever they are made of arrays alone.
@@ -260,7 +278,21 @@ fn strides(
     requires layouts { TellsLayouts «module».now layouts.now }
     ensures { IfOk result (λ kept. TellsStrides «module».now kept.items) }
 {
-    strides_of(alloc, &module.types, undeclared, layouts)
+    let bound = module.keeps_bound_offsets;
+    strides_of(alloc, &module.types, undeclared, bound, layouts)
+}
+
+/// Which types have a struct in them of which a member has a binding, where the module keeps the
+/// offsets of these.
+fn bindings(alloc: Global, module: &Module) -> Result<Vec<bool>, AllocError>
+    requires ordered { ItemsStandInOrder «module».now }
+    ensures { IfOk result (λ marks. TellsBindings «module».now marks.items) }
+{
+    if module.keeps_bound_offsets {
+        bindings_of(alloc, &module.types)
+    } else {
+        Ok(Vec::new(alloc))
+    }
 }
 
 /// How a type is laid out, by its cell.

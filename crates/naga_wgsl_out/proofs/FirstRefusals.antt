@@ -17,7 +17,7 @@ use Rattle.module_semantics.specs.DeclarationForms.IsInitialiser.{OfVariable as 
 use Rattle.module_semantics.specs.DeclarationForms.IsMemberBinding.{OfMember as MemberBinding}
 use Rattle.module_semantics.specs.DeclarationForms.IsIoBinding.{OfArgument, OfResult}
 use Rattle.module_semantics.specs.FunctionNumbers.{all_functions, all_infos}
-use Rattle.module_semantics.specs.Layouts.{concerned_members, concerned_of, module_rule}
+use Rattle.module_semantics.specs.Layouts.{concerned_members, concerned_of, keeps_bindings, module_rule}
 use Rattle.module_semantics.specs.ExpressionForms.{global_has_form}
 use Rattle.naga_info.specs.declared.info.ModuleInfo.{ModuleInfo}
 use Rattle.naga_ir.specs.declared.module.Constant.{Constant}
@@ -115,9 +115,9 @@ module _ (m : Module) where
   struct_lacks members it (OfFirst (i, s, there, earlier, lacks)) has = some_none lacks (has.each i s there)
   struct_lacks members it (OfPlace ks fault formed concerned stands first is) has =
       has.offsets ks concerned fault stands
-  struct_lacks members it (OfArray ks ty formed concerned kept (i, s, there, earlier, other) is) has =
+  struct_lacks members it (OfArray ks ty formed concerned free kept (i, s, there, earlier, other) is) has =
       false≢true (sym other.1 ∙ subst (λ ty. arrays_are_kept (module_rule m) m.types ty ≡ true) (sym other.0)
-      (has.strides ks concerned i s there))
+      (has.strides ks concerned free i s there))
 
   type_lacks : (h : ℕ) (t : Type_) (it : Construct) → IsUnsupportedType m h t it → TypeHasForm m h t → ⊥
   type_lacks h t it lacks has = struct_lacks (members_of t.inner) it lacks.1 (has lacks.0)
@@ -142,8 +142,8 @@ module _ (m : Module) where
           (λ b bound. has.members b (MemberBinding h i t s b at is_there there bound));
       offsets = λ ks concerned fault stands.
           has.offsets h fault (record { members = ks; concerned = is_concerned ∙ concerned; stands = stands });
-      strides = λ ks concerned i s there.
-          kept ks concerned i s there (arrays_are_kept (module_rule m) m.types s.ty) refl;
+      strides = λ ks concerned free i s there.
+          kept ks concerned free i s there (arrays_are_kept (module_rule m) m.types s.ty) refl;
     }
       where
         is_concerned : concerned_members m h ≡ concerned_among m (members_of t.inner)
@@ -151,15 +151,17 @@ module _ (m : Module) where
             ap (option_and_then (λ t. concerned_of m h t.inner)) at
             ∙ ap (λ b. if b then concerned_among m (members_of t.inner) else None) is_there
 
-        kept : (ks : List Placed) → concerned_among m (members_of t.inner) ≡ Some ks → (i : ℕ) (s : StructMember) →
+        kept : (ks : List Placed) → concerned_among m (members_of t.inner) ≡ Some ks →
+            keeps_bindings m (members_of t.inner) ≡ false → (i : ℕ) (s : StructMember) →
             slice_get (members_of t.inner) i ≡ Some s → (b : Bool) →
             arrays_are_kept (module_rule m) m.types s.ty ≡ b → arrays_are_kept (module_rule m) m.types s.ty ≡ true
-        kept ks concerned i s there true is = is
-        kept ks concerned i s there false is = absurd (has.strides h s.ty (record {
+        kept ks concerned free i s there true is = is
+        kept ks concerned free i s there false is = absurd (has.strides h s.ty (record {
           members = ks;
           concerned = is_concerned ∙ concerned;
           whole = t;
           at = at;
+          free = free;
           number = i;
           member = s;
           there = there;

@@ -2,8 +2,9 @@
 -- Serves `given_size`.
 --
 -- Throughout, t is the text of a module m, h the handle of a struct with these members and span bytes,
--- s its member number i, f tells layouts of types, and l is a layout.
-use Rattle.std.proofs.Common.{◌≡◌, ◌∙◌, ◌+◌, ℕ, suc, List, ap, add-one, min, refl, slice_get, sym}
+-- s its member number i, f tells layouts of types, bound whether members with bindings are laid out, and l
+-- is a layout.
+use Rattle.std.proofs.Common.{◌≡◌, ◌∙◌, ◌+◌, ℕ, suc, Bool, List, ap, add-one, min, refl, slice_get, sym}
 use Rattle.std.proofs.lemmas.Option.{none-some}
 use Rattle.std.specs.Option.{option_map, option_map_or}
 use Rattle.std.specs.Prelude.{None, Option, Some, unwrap_or}
@@ -36,8 +37,8 @@ some_layout None held is = absurd (none-some held (sym is))
 some_layout (Some l) held is = (l, refl, ap (λ o. unwrap_or o held) is)
 
 -- ---- what is after a member, of members that all have places
-module _ (f : ℕ → Option Layout) (ms : List StructMember) (ks : List Placed)
-    (placed_all : placed_members f ms ≡ Some ks) (span a : ℕ) (n : ℕ) where
+module _ (bound : Bool) (f : ℕ → Option Layout) (ms : List StructMember) (ks : List Placed)
+    (placed_all : placed_members bound f ms ≡ Some ks) (span a : ℕ) (n : ℕ) where
   pub record Follows (after : After) : Type 0 where
     pub offset : after.offset ≡ begins_at span ks n
     pub alignment : after.alignment ≡ aligned_at a ks n
@@ -49,14 +50,14 @@ module _ (f : ℕ → Option Layout) (ms : List StructMember) (ks : List Placed)
           Follows after
       by None at is =
           let same : after ≡ record { offset = span; alignment = a } = ap (λ o. unwrap_or o after) is in
-          let none = placed_none f ms ks placed_all n at in
+          let none = placed_none bound f ms ks placed_all n at in
           record {
             offset = ap (λ x. x.offset) same ∙ sym (ap (λ o. option_map_or (λ k. k.offset) o span) none);
             alignment =
                 ap (λ x. x.alignment) same ∙ sym (ap (λ o. option_map_or (λ k. k.layout.alignment) o a) none);
           }
       by (Some s) at is =
-          let p = placed_some f ms ks placed_all n s at in
+          let p = placed_some bound f ms ks placed_all n s at in
           let same : after ≡ record { offset = s.offset; alignment = p.0.alignment } =
           ap (λ o. unwrap_or o after)
           (is ∙ ap (option_map (λ l. record { offset = s.offset; alignment = l.alignment })) p.1) in
@@ -73,7 +74,7 @@ module _ (f : ℕ → Option Layout) (ms : List StructMember) (ks : List Placed)
       by : (o : Option StructMember) → slice_get ms n ≡ o → None ≡ after_member f span a o → ⊥
       by None at is = none-some _ is
       by (Some s) at is =
-          let p = placed_some f ms ks placed_all n s at in
+          let p = placed_some bound f ms ks placed_all n s at in
           none-some _
           (is ∙ ap (option_map (λ l. record { offset = s.offset; alignment = l.alignment })) p.1)
 
@@ -110,7 +111,8 @@ module _ (t : ModuleText) (can : CanDeclare t) (h : ℕ) (members : List StructM
     -- its member has a layout,
     pub has_layout : None ≡ option_map capped (layout_in m s.ty) → ⊥
     has_layout none =
-        let p = placed_some (layout_in m) (members_of d.whole.inner) laid_out.members laid_out.placed i s at in
+        let p = placed_some m.keeps_bound_offsets (layout_in m) (members_of d.whole.inner) laid_out.members
+        laid_out.placed i s at in
         none-some _ (sym (no_layout (layout_in m s.ty) none) ∙ p.1)
 
     after_same : after_member (layout_in m) span whole.alignment (slice_get members (i + 1)) ≡
@@ -127,7 +129,7 @@ module _ (t : ModuleText) (can : CanDeclare t) (h : ℕ) (members : List StructM
     -- and something stands after it,
     pub has_after : None ≡ after_member (layout_in m) span whole.alignment (slice_get members (i + 1)) → ⊥
     has_after none =
-        none_after (layout_in m) (members_of d.whole.inner) laid_out.members laid_out.placed
+        none_after m.keeps_bound_offsets (layout_in m) (members_of d.whole.inner) laid_out.members laid_out.placed
         (span_of d.whole.inner) it.0.alignment (suc i) (none ∙ after_same)
 
     -- by which it is given its size
@@ -140,7 +142,7 @@ module _ (t : ModuleText) (can : CanDeclare t) (h : ℕ) (members : List StructM
     size_is own owns after stands size gives =
         let l = some_layout (layout_in m s.ty) own owns in
         let ks = laid_out.members in
-        let follows = after_is (layout_in m) (members_of d.whole.inner) ks laid_out.placed
+        let follows = after_is m.keeps_bound_offsets (layout_in m) (members_of d.whole.inner) ks laid_out.placed
         (span_of d.whole.inner) it.0.alignment (suc i) after (stands ∙ after_same) in
         gives l.0.size (ap (λ l. l.size) l.2)
         ∙ (ap (λ p. gap_size s.offset l.0.size p after.alignment) follows.offset

@@ -19,16 +19,17 @@ HERE = Path(__file__).resolve().parent
 CRATE = HERE.parent
 
 EXPECTATION = re.compile(
-    r"(gives nothing|gives with types|gives portable|gives with digits|gives computed|gives)"
+    r"(gives nothing|gives with types|gives portable|gives with digits|gives with offsets|gives computed|gives)"
     r"|(refused with types|refused computed|refused|at with types|at|not accepted): (.+)"
 )
 # The lines with a text below them.
-TEXTS = ("gives", "gives with types", "gives portable", "gives with digits", "gives computed")
+TEXTS = ("gives", "gives with types", "gives portable", "gives with digits", "gives with offsets", "gives computed")
 # Other texts of the same module, by the lines that tell them: the member by which the program is asked for one,
 # and what stands after the case's name, without types and with them.
 OTHERS = {
     "gives portable": ("portable", "portable", "portable with types"),
     "gives with digits": ("digits", "with digits", "with digits and types"),
+    "gives with offsets": ("offsets", "with offsets", "with offsets and types"),
     "gives computed": ("computed", "computed", "computed with types"),
 }
 ONLY_WITH_TYPES = re.compile(r"\[(: [^\[\]]+)\]")

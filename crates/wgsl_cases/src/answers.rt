@@ -4,7 +4,7 @@ ghost use Rattle.std.specs.Prelude.{IsTrue};
 ghost use Rattle.module_semantics.specs.acceptance.Accepted.{is_accepted};
 
 use bitflags::Flags;
-use decimal_floats::{compute_constants, keep_digits};
+use decimal_floats::{compute_constants, keep_bound_offsets, keep_digits};
 use json::{Scratch, Value};
 use module_positions::{JsonHolder, JsonRefusalPosition, labelled_position, role_at, root_at};
 use naga_json::{Known, ReadError, known_of, module_of, parse};
@@ -100,6 +100,19 @@ fn answer_known<W: Write>(
             name,
             ", with digits",
             ", with digits and types",
+            known,
+            WriterFlags::empty(),
+            positions,
+            out,
+        )?;
+    }
+    if is_told(case, "offsets") {
+        keep_bound_offsets(&mut known.module);
+        print_texts(
+            alloc,
+            name,
+            ", with offsets",
+            ", with offsets and types",
             known,
             WriterFlags::empty(),
             positions,

@@ -7,8 +7,10 @@
 //! Where a member `positions` is `true`, a line `at: POSITION` comes after a refusal, the position being that in the
 //! JSON. Where a member `portable` is `true`, what is written for standard compilers comes after `== NAME, portable`
 //! and `== NAME, portable with types`. Where a member `digits` is `true`, what is written where names keep their
-//! digits comes after `== NAME, with digits` and `== NAME, with digits and types`. A module that is not accepted has
-//! the line `not accepted: WHERE: WHY: WHAT WAS WANTED` alone, of which the last part is absent where no more is told.
+//! digits comes after `== NAME, with digits` and `== NAME, with digits and types`. Where a member `offsets` is `true`,
+//! what is written where bound structs keep their offsets comes after `== NAME, with offsets` and `== NAME, with
+//! offsets and types`. A module that is not accepted has the line `not accepted: WHERE: WHY: WHAT WAS WANTED` alone,
+//! of which the last part is absent where no more is told.
 //!
 //! The folder `cases` has what `stdin` and `stdout` are made of.
 #![tactic(auto)]

@@ -2,7 +2,7 @@
 
 use crate::explanation::{explained, unasked_explained};
 use crate::names::names_line;
-use crate::texts::write_in;
+use crate::texts::{lost_of, write_in};
 use module_answers::{
     NoOutcome, Shader, Unasked, WriteOutcome, holder_of, info_within, layout_table,
     name_as_standard, refusal_line, rule_name_line, untyped_line,
@@ -22,6 +22,9 @@ use yorwethul_progress::Outcome;
 pub enum Answer {
     /// This is printed.
     Printed(String, Outcome),
+    /// This text of a module is printed, and each of these buffers is told, whose layout it does not
+    /// keep.
+    Written(String, Vec<String>),
     /// Nothing is printed, for the reason that this line has.
     Told(String, Outcome),
 }
@@ -120,7 +123,7 @@ fn of_written(
         sink,
     } = written;
     match (answer, refusal) {
-        (Ok(()), _) => Ok(Answer::Printed(sink, Outcome::Written)),
+        (Ok(()), _) => Ok(Answer::Written(sink, lost_of(alloc, shader)?)),
         (Err(_), Some(refusal)) => {
             let line = refusal_line(alloc, &shader.module, refusal, shader.holder)?;
             refused(alloc, line)

@@ -5,7 +5,7 @@ ghost use Rattle.std.specs.Prelude.{◌≤◌, IfOk};
 
 use crate::answer::Answer;
 use crate::names::names_beside;
-use crate::texts::write_in;
+use crate::texts::{lost_of, write_in};
 use fault_details::explain;
 use json::Scratch;
 use module_answers::{
@@ -266,6 +266,7 @@ fn tell_given(
                 holder,
             };
             tell_shader(alloc, &mut shader, style, members)?;
+            tell_lost(alloc, &shader, members)?;
             tell_names(alloc, &mut shader, style, members)
         }
         Err(unasked) => tell_unasked(alloc, &module, unasked, holder, members),
@@ -306,6 +307,22 @@ fn tell_unwritten(
         }
         NoOutcome::Memory(_) => Err(AllocError),
     }
+}
+
+/// Tells which buffers a text lays out otherwise than the module does, where there are some.
+fn tell_lost(alloc: Global, shader: &Shader, members: &mut Members) -> Result<(), AllocError> {
+    if outcome_in(members) != Outcome::Written {
+        return Ok(());
+    }
+    let buffers = lost_of(alloc, shader)?;
+    if buffers.is_empty() {
+        return Ok(());
+    }
+    let mut told = Vec::new(alloc);
+    for buffer in &buffers {
+        told.push(Value::try_from_str(alloc, buffer.as_str())?)?;
+    }
+    put(alloc, "layout_not_kept", Value::Array(told), members)
 }
 
 /// Tells the names of a module beside what was told of its text, where that is asked for and the module

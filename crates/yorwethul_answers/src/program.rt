@@ -16,7 +16,7 @@ use yorwethul_input::{
     Failure, Invocation, NESTING, Source, Style, Task, given_by, invocation_of, levels_within,
     title,
 };
-use yorwethul_progress::Progress;
+use yorwethul_progress::{Outcome, Progress};
 
 /// Who is at the ends of the program's streams.
 #[derive(Clone, Copy, Debug, PartialEq, Eq)]
@@ -188,11 +188,14 @@ fn serve_module<'a, R: Files + Input + AllocGlobal, O: Write, E: Write>(
 ) -> Result<u8, Failure<'a>> {
     match answer_about(rt, invocation, source) {
         Ok(Answer::Printed(text, outcome)) => {
-            let text = behind_its_name(invocation, outputs, source.module, text);
-            let Ok(output) = output_of(rt.alloc(), outputs, source.module, invocation.task) else {
-                return Err(Failure::Memory);
-            };
-            put(rt, output, text, status_of(outcome), out, err)
+            put_answer(rt, invocation, outputs, source, text, outcome, out, err)
+        }
+        Ok(Answer::Written(text, lost)) => {
+            for buffer in &lost {
+                let name = title(source.module);
+                let _ = writeln!(err, "{name}: layout not kept: {}", buffer.as_str());
+            }
+            put_answer(rt, invocation, outputs, source, text, Outcome::Written, out, err)
         }
         Ok(Answer::Told(line, outcome)) => {
             let _ = writeln!(err, "{}: {line}", title(source.module));
@@ -201,6 +204,24 @@ fn serve_module<'a, R: Files + Input + AllocGlobal, O: Write, E: Write>(
         Err(Failure::Memory) => Err(Failure::Memory),
         Err(failure) => Ok(fail(failure, err)),
     }
+}
+
+/// Puts what is answered about one of the modules where it goes. An error ends the run.
+fn put_answer<'a, R: Files + Input + AllocGlobal, O: Write, E: Write>(
+    rt: &R,
+    invocation: &Invocation<'a>,
+    outputs: Outputs<'a>,
+    source: Source<'a>,
+    text: String,
+    outcome: Outcome,
+    out: &mut O,
+    err: &mut E,
+) -> Result<u8, Failure<'a>> {
+    let text = behind_its_name(invocation, outputs, source.module, text);
+    let Ok(output) = output_of(rt.alloc(), outputs, source.module, invocation.task) else {
+        return Err(Failure::Memory);
+    };
+    put(rt, output, text, status_of(outcome), out, err)
 }
 
 /// What is answered about one of the modules.

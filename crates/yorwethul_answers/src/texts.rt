@@ -1,9 +1,10 @@
 //! Texts in the style that is asked for.
 
 use module_answers::{
-    NoOutcome, Shader, WriteOutcome, flags_for, write_decimal_within, write_within,
+    NoOutcome, Shader, WriteOutcome, flags_for, lost_buffers, write_decimal_within, write_within,
 };
-use std::alloc::Global;
+use naga_wgsl_shared::Error;
+use std::alloc::{AllocError, Global};
 use yorwethul_input::Style;
 
 /// Writes the module in this style. Where that is not plain, its floats are made decimal first.
@@ -18,5 +19,16 @@ pub fn write_in(
         write_within(alloc, &shader.module, &mut shader.info, flags, bound)
     } else {
         write_decimal_within(alloc, &mut shader.module, &mut shader.info, flags, bound)
+    }
+}
+
+/// The buffers whose layout the text of a module that was written does not keep, as that text names
+/// them. Of a plain text none is told.
+pub fn lost_of(alloc: Global, shader: &Shader) -> Result<Vec<String>, AllocError> {
+    match lost_buffers(alloc, &shader.module, &shader.info) {
+        Ok(buffers) => Ok(buffers),
+        Err(Error::Memory(error)) => Err(error),
+        // names are not lacking where there is a text
+        Err(_) => Ok(Vec::new(alloc)),
     }
 }

@@ -52,8 +52,8 @@ TellsOfNames json flags status.NotAccepted text = TellsOfFault json text
 TellsOfNames json flags status.UnknownFlag text = 8 ≤ flags
 TellsOfNames json flags told text = TellsOfReading json told text
 
--- of one whose layouts are asked for, under the names that its text has under these flags: it is
--- refused where its items can't all be named
+-- of one whose layouts are asked for, or which buffers lose theirs, under the names that its text has
+-- under these flags: it is refused where its items can't all be named
 abbrev pub TellsOfLayouts : (json : List ℕ) (flags : ℕ) → Status → (text : List ℕ) → Type 0
 TellsOfLayouts json flags status.Done text = IsToBeNamed json flags
 TellsOfLayouts json flags status.Refused text = AreUnnamed json flags

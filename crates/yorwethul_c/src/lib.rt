@@ -13,7 +13,7 @@ ghost use Rattle.yorwethul_c.specs.NamedItems.{TellsOfLayouts, TellsOfNames};
 
 use crate::answers::{checked, written};
 use crate::copying::hand_out;
-use crate::named::{laid_out, named};
+use crate::named::{laid_out, lost, named};
 use std::alloc::Global;
 
 /// Writes the module that the JSON holds, at most `LONGEST_TEXT` bytes.
@@ -56,6 +56,21 @@ pub extern "C" fn yorwethul_layout(
     ensures { HandsOut (TellsOfLayouts json.now flags) result needed.new out.old out.new }
 {
     hand_out(laid_out(alloc, json, flags), out, needed)
+}
+
+/// Tells which buffers the text that the module has under these flags lays out otherwise than the module
+/// does, though it is written: a list of their names, as JSON.
+#[unsafe(no_mangle)]
+pub extern "C" fn yorwethul_lost_layouts(
+    alloc: Global,
+    json: &[u8],
+    flags: u32,
+    out: &mut [u8],
+    needed: &mut usize,
+) -> u32
+    ensures { HandsOut (TellsOfLayouts json.now flags) result needed.new out.old out.new }
+{
+    hand_out(lost(alloc, json, flags), out, needed)
 }
 
 /// Tells which identifier of the text that the module has under these flags stands for which item of it, as

@@ -10,7 +10,7 @@ use crate::answers::{
     ALL_FLAGS, Answer, DECIMAL_FLOATS, not_accepted, out_of_memory, shader_in, told,
 };
 use crate::status::Status;
-use module_answers::{Shader, layout_table, name_as_standard, names_text};
+use module_answers::{Shader, layout_table, lost_text, name_as_standard, names_text};
 use naga_acceptance::unaccepted;
 use naga_ir::Module;
 use naga_wgsl_shared::Error;
@@ -42,6 +42,21 @@ pub fn laid_out(alloc: Global, json: &[u8], flags: u32) -> Answer
     }
     match shader_in(alloc, json) {
         Ok(mut shader) => laid_out_shader(alloc, &mut shader, flags),
+        Err(answer) => answer,
+    }
+}
+
+/// Tells which buffers the text that the module has under these flags lays out otherwise than the module
+/// that the JSON holds.
+#[tactic(auto, using(crate::proofs::NamedAnswers::unread_laid_out))]
+pub fn lost(alloc: Global, json: &[u8], flags: u32) -> Answer
+    ensures { TellsOfLayouts json.now flags result.status (string_bytes result.text) }
+{
+    if flags > ALL_FLAGS {
+        return told(alloc, Status::UnknownFlag, "a bit is set that no flag has");
+    }
+    match shader_in(alloc, json) {
+        Ok(mut shader) => lost_of_shader(alloc, &mut shader, flags),
         Err(answer) => answer,
     }
 }
@@ -78,6 +93,27 @@ fn laid_out_shader(alloc: Global, shader: &mut Shader, flags: u32) -> Answer
         None => {
             name_under(&mut shader.module, flags);
             match layout_table(alloc, &shader.module, &shader.info) {
+                Ok(text) => Answer {
+                    status: Status::Done,
+                    text,
+                },
+                Err(error) => unnamed(alloc, error),
+            }
+        }
+    }
+}
+
+fn lost_of_shader(alloc: Global, shader: &mut Shader, flags: u32) -> Answer
+    requires known { flags ≤ 7 }
+    ensures { (json : List ℕ) →
+        WasRead json shader.old.holder shader.old.module shader.old.info →
+        TellsOfLayouts json flags result.status (string_bytes result.text) }
+{
+    match unaccepted(&shader.module, &shader.info) {
+        Some(fault) => not_accepted(alloc, shader, fault),
+        None => {
+            name_under(&mut shader.module, flags);
+            match lost_text(alloc, &shader.module, &shader.info) {
                 Ok(text) => Answer {
                     status: Status::Done,
                     text,

@@ -3,8 +3,8 @@
 The model was written from the rules, apart from the writer: which modules are accepted, the names of labels, the count
 of uses, what a `let` binds, what is in scope, which members of structs get sizes, the text, and for which constructs a
 module is refused. Each module is written plainly and for standard compilers, where floats that it holds as bits are
-decimal, names keep their digits and constants may apply operators, without and with the types of its `let`s. It reads
-each text and compares what it declares, and where the members of its structs stand by the words of their types, with
+decimal, names keep their digits, constants may apply operators and structs with bindings keep their offsets, without and
+with the types of its `let`s. It reads each text and compares what it declares, and where the members of its structs stand by the words of their types, with
 what the module has. It runs each module and each text, from each function and entry point, over terms in which each
 operator stands for any function, in worlds that tell of each condition whether it holds, and compares the events, the
 endings and the results. It does so too under one meaning of whole numbers, with the runs of `crates/wgsl_cases/runs`,

@@ -71,15 +71,23 @@ class Layouts:
         offsets, _ = self.module.placement(ty)
         return [(offset, self.of(member)) for offset, (_, member) in zip(offsets, ty[1])]
 
+    def has_bindings(self, ty):
+        """Whether a struct in a type has a member with a binding."""
+        if ty[0] == "array":
+            return self.has_bindings(ty[1])
+        return ty[0] == "struct" and any(
+            (ty, number) in self.module.bindings or self.has_bindings(member) for number, (_, member) in enumerate(ty[1]))
+
     def is_concerned(self, ty):
-        """Whether the members' offsets are to be kept."""
+        """Whether the members' offsets are to be kept: with bindings they are where that is asked for and all can be."""
         members = self.members(ty)
-        is_bound = any((ty, number) in self.module.bindings for number in range(len(members)))
-        if self.module.names_undeclared(ty) or not members or is_bound:
+        if self.module.names_undeclared(ty) or not members:
             return False
         if any(layout is None for _, layout in members) or any(offset == 0 for offset, _ in members[1:]):
             return False
-        return all(layout[1] is not None for _, layout in members[:-1])
+        if any(layout[1] is None for _, layout in members[:-1]):
+            return False
+        return not self.has_bindings(ty) or self.module.keeps_bound_offsets and not self.misplaced(ty)
 
     def misplaced(self, ty):
         """What stands of members that can't be kept where they are."""
@@ -94,7 +102,7 @@ class Layouts:
 
     def faults(self, ty):
         """All that stands for which a struct is refused."""
-        if not self.is_concerned(ty):
+        if not self.is_concerned(ty) or self.has_bindings(ty):
             return set()
         strides = all(self.keeps_strides(member) for _, member in ty[1])
         return self.misplaced(ty) | (set() if strides else {STRIDE})

@@ -168,8 +168,8 @@ class Module:
     handle is nowhere; what members are bound to, by their struct and number; where members stand, and how long their
     struct is, by their struct; constants, overrides and variables; functions and entry points; the module's own
     expressions, which stand together as those of a function do; filters of diagnostics, and the number of the last one
-    that holds in it, or none; and whether names keep the digits of their labels and operators of these own expressions
-    are written.
+    that holds in it, or none; and whether names keep the digits of their labels, operators of these own expressions are
+    written, and structs with bindings keep the offsets of their members.
 
     A type may stand there again, under another label: most of a module names the first one."""
 
@@ -179,7 +179,7 @@ class Module:
         self.own, self.constants, self.overrides, self.variables = Function(None, self), [], [], []
         self.functions, self.entry_points = [], []
         self.filters, self.leaf = [], None
-        self.keeps_digits = self.computes_constants = False
+        self.keeps_digits = self.computes_constants = self.keeps_bound_offsets = False
 
     def bodies(self):
         """Functions, and after them entry points."""

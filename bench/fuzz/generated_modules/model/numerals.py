@@ -75,9 +75,9 @@ def digits_of(text):
 
 def with_decimals(module):
     """The module, each of whose floats that are held as bits and have a numeral is held as that, whose names keep their
-    digits, and whose constants may apply operators."""
+    digits, whose constants may apply operators, and whose structs with bindings keep their offsets."""
     module = copy.deepcopy(module)
-    module.keeps_digits = module.computes_constants = True
+    module.keeps_digits = module.computes_constants = module.keeps_bound_offsets = True
     for f in module.groups():
         for e in f.expressions:
             if e.kind == "literal" and LITERALS[e.what[0]] in FORMS and e.what[0] not in NUMERALS.values():

@@ -16,7 +16,7 @@ class TextLayouts:
         offsets, end, greatest = [], 0, 1
         for attributes, _, word in self.members[name]:
             alignment, size = self.of_word(word)
-            given = [int(over) for attribute, over in attributes if attribute == "size"]
+            given = [int(over) for attribute, *told in attributes if attribute == "size" for over in told]
             assert len(given) < 2 and all(size is not None and size <= number for number in given), attributes
             while end % alignment:
                 end += 1

@@ -193,6 +193,12 @@ class Tally:
         self.add("structs that are concerned, whose spans are kept", sum(
             layouts.kept(ty)[1] is not None for ty in concerned))
         self.add("members with sizes", len(sizes) - sizes.count(None))
+        self.add("members with sizes beside bindings", sum(
+            size is not None and (ty, number) in module.bindings
+            for ty in concerned for number, size in enumerate(layouts.sizes(ty))))
+        self.add("written, with a struct without bindings around one with sizes beside them", any(
+            layouts.has_bindings(ty) and any(layouts.sizes(ty))
+            and not any((ty, number) in module.bindings for number in range(len(ty[1]))) for ty in concerned))
         self.add("written, with a size of a struct's last member", any(
             layouts.sizes(ty)[-1] is not None for ty in concerned))
         self.add("written, with a member of a struct with sizes", any(

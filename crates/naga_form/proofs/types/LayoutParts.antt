@@ -6,16 +6,15 @@
 -- w one as it is written, ks and ws are lists of these, i is the number of a member, f tells how the struct
 -- of a name is laid out, levels is how deep structs are in one another, and depth how deep types are.
 use Rattle.std.proofs.Common.{◌≡◌, ◌<◌, ◌≤◌, ◌+◌, ℕ, zero, suc, Bool, true, false, List, [], ◌∷◌}
-use Rattle.std.proofs.Common.{Option, Some, None, refl, sym, ap, subst, ◌∙◌, arith, codes, length}
+use Rattle.std.proofs.Common.{Option, Some, None, refl, sym, ap, ap₂, subst, ◌∙◌, arith, codes, length}
 use Rattle.std.proofs.Common.{map}
-use Rattle.std.specs.Prelude.{if◌then◌else◌, nat_lt, not, slice_get, unwrap_or}
+use Rattle.std.specs.Prelude.{◌&&◌, ◌||◌, if◌then◌else◌, nat_lt, not, slice_get, unwrap_or}
 use Rattle.std.specs.Int.NonZero.{non_zero_u32_get}
 use Rattle.std.specs.List.{enumerate_from, list_all}
 use Rattle.std.specs.Option.{is_none, option_and_then, option_map, option_map_or}
 use Rattle.std.proofs.lemmas.Bool.{and_parts, ltb-true}
 use Rattle.std.proofs.lemmas.Option.{same_Some}
 use Rattle.naga_info.proofs.Options.{map_some, then_some}
-use Rattle.naga_ir.specs.declared.binding.Binding.{Binding}
 use Rattle.naga_ir.specs.declared.module.Module.{Module}
 use Rattle.naga_ir.specs.declared.types.ArraySize.{ArraySize}
 use Rattle.naga_ir.specs.declared.types.ArraySize.TheVariants as size
@@ -32,8 +31,10 @@ use Rattle.naga_naming.specs.Keys.{NameMap}
 use Rattle.naga_naming.specs.Reset.{members_of}
 use Rattle.naga_spelling.specs.Contexts.{Names as TypeNames}
 use Rattle.naga_spelling.specs.Words.{matrix_word, vector_word}
-use Rattle.module_semantics.specs.Layouts.{concerned_members, concerned_of, concerned_only, layout_in}
-use Rattle.module_semantics.specs.Layouts.{module_rule, size_among, span_at, span_of, written_size}
+use Rattle.module_semantics.specs.Layouts.{are_to_keep, concerned_members, concerned_of, concerned_only}
+use Rattle.module_semantics.specs.Layouts.{keeps_bindings, layout_in, module_rule, placed_in, size_among}
+use Rattle.module_semantics.specs.Layouts.{span_at, span_of, written_size}
+use Rattle.module_semantics.proofs.WrittenSizes.{able}
 use Rattle.module_semantics.specs.Names.{module_names}
 use Rattle.module_semantics.specs.Types.{type_names}
 use Rattle.module_semantics.specs.Undeclared.{is_declared, is_undeclared}
@@ -49,6 +50,7 @@ use Rattle.wgsl_layout.specs.declared.layouts.Placed.{Placed}
 use Rattle.wgsl_text.specs.Declarations.{Struct}
 use Rattle.wgsl_text.specs.Types.{TypeSpecifier, Named, of_one}
 use Rattle.wgsl_text.specs.Words.{IsIdentifier}
+use Rattle.naga_form.proofs.declarations.Attributes.{size_is}
 use Rattle.naga_form.proofs.types.LayoutWords.{atomic_is_read, atomic_over, matrix_over, no_scalar}
 use Rattle.naga_form.proofs.types.LayoutWords.{scalar_is_read, vector_over}
 use Rattle.naga_form.specs.Attributes.{member_attributes}
@@ -64,31 +66,24 @@ if_some true o x is = (refl, is)
 if_some false o x is = absurd cc
 
 -- ---- members
--- a member's size is read as it was written
-size_is : (o : Option ℕ) → size_read (member_attributes o None) ≡ o
-size_is None = refl
-size_is (Some n) = refl
-
 -- what is known of one that has a place
-placed_is : (f : ℕ → Option Layout) (k : ir_member.StructMember) (p : Placed) → placed_member f k ≡ Some p →
-    (k.binding ≡ None) × (f k.ty ≡ Some p.layout)
-placed_is f k p is =
-    let parts = if_some (is_none k.binding)
+placed_is : (bound : Bool) (f : ℕ → Option Layout) (k : ir_member.StructMember) (p : Placed) →
+    placed_member bound f k ≡ Some p → f k.ty ≡ Some p.layout
+placed_is bound f k p is =
+    let parts = if_some (bound || is_none k.binding)
     (option_map (λ l. record { layout = l; offset = k.offset }) (f k.ty)) p is in
     let own = map_some (λ (l : Layout). record { layout = l; offset = k.offset }) (f k.ty) p parts.1 in
-    (none k.binding parts.0, own.1 ∙ ap (λ l. Some l) (ap (λ (p : Placed). p.layout) own.2))
-  where
-    none : (o : Option Binding) → is_none o ≡ true → o ≡ None
-    none None is = refl
-    none (Some b) is = absurd cc
+    own.1 ∙ ap (λ l. Some l) (ap (λ (p : Placed). p.layout) own.2)
 
-more_placed : (f : ℕ → Option Layout) (k : ir_member.StructMember) (more : List ir_member.StructMember)
-    (ks : List Placed) →
-    placed_members f (k ∷ more) ≡ Some ks →
-    (p : Placed) × (ps : List Placed) × (placed_member f k ≡ Some p) × (placed_members f more ≡ Some ps) × (p ∷ ps ≡ ks)
-more_placed f k more ks is =
-    let one = then_some (λ p. option_map (λ ps. p ∷ ps) (placed_members f more)) (placed_member f k) ks is in
-    let two = map_some (λ ps. one.0 ∷ ps) (placed_members f more) ks one.2 in
+more_placed : (bound : Bool) (f : ℕ → Option Layout) (k : ir_member.StructMember)
+    (more : List ir_member.StructMember) (ks : List Placed) →
+    placed_members bound f (k ∷ more) ≡ Some ks →
+    (p : Placed) × (ps : List Placed) × (placed_member bound f k ≡ Some p) ×
+    (placed_members bound f more ≡ Some ps) × (p ∷ ps ≡ ks)
+more_placed bound f k more ks is =
+    let one = then_some (λ p. option_map (λ ps. p ∷ ps) (placed_members bound f more)) (placed_member bound f k)
+    ks is in
+    let two = map_some (λ ps. one.0 ∷ ps) (placed_members bound f more) ks one.2 in
     (one.0, two.0, one.1, two.1, two.2)
 
 no_more : (ws : List Member) → HaveLayoutsOf [] ws → ws ≡ []
@@ -98,31 +93,30 @@ no_more (w ∷ ws) have = absurd have
 module _ (m : Module) (names : NameMap) (t : TypeNames) (h : ℕ) (f : List ℕ → Option Layout)
     (reads : (b : ℕ) (l : Layout) → b < h → layout_in m b ≡ Some l → type_layout_by f (type_form t b) ≡ Some l) where
   one_laid : (i : ℕ) (k : ir_member.StructMember) (p : Placed) (w : Member) →
-      placed_member (layout_in m) k ≡ Some p → nat_lt k.ty h ≡ true → w.layout ≡ p.layout → written_size m h i
+      placed_member m.keeps_bound_offsets (layout_in m) k ≡ Some p → nat_lt k.ty h ≡ true →
+      w.layout ≡ p.layout → written_size m h i
       ≡ w.given →
       member_laid f (member_form names t m h (i, k)) ≡ Some w
   one_laid i k p w placed before have given =
-      let is = placed_is (layout_in m) k p placed in
       ap (option_map (λ l. record { layout = l; given = size_read (member_attributes (written_size m h i) k.binding) }))
-      (reads k.ty p.layout (ltb-true k.ty h before) is.1)
-      ∙ (ap (λ b. Some
-      (record { layout = p.layout; given = size_read (member_attributes (written_size m h i) b) })) is.0
-      ∙ (ap (λ g. Some (record { layout = p.layout; given = g })) (size_is (written_size m h i) ∙ given)
-      ∙ ap (λ l. Some (record { layout = l; given = w.given })) (sym have)))
+      (reads k.ty p.layout (ltb-true k.ty h before) (placed_is m.keeps_bound_offsets (layout_in m) k p placed))
+      ∙ (ap (λ g. Some (record { layout = p.layout; given = g })) (size_is (written_size m h i) k.binding ∙ given)
+      ∙ ap (λ l. Some (record { layout = l; given = w.given })) (sym have))
 
   laid_from : (i : ℕ) (rest : List ir_member.StructMember) (ks : List Placed) (ws : List Member) →
-      placed_members (layout_in m) rest ≡ Some ks → list_all (λ k. nat_lt k.ty h) rest ≡ true → HaveLayoutsOf ks ws →
+      placed_in m rest ≡ Some ks → list_all (λ k. nat_lt k.ty h) rest ≡ true → HaveLayoutsOf ks ws →
       ((j : ℕ) (w : Member) → slice_get ws j ≡ Some w → written_size m h (i + j) ≡ w.given) →
       members_laid f (map (member_form names t m h) (enumerate_from i rest)) ≡ Some ws
   laid_from i [] ks ws placed before have sizes =
       ap (λ ws. Some ws) (sym (no_more ws (subst (λ ks. HaveLayoutsOf ks ws) (sym (same_Some [] ks placed)) have)))
   laid_from i (k ∷ more) ks ws placed before have sizes =
       let parts = and_parts (nat_lt k.ty h) (list_all (λ k. nat_lt k.ty h) more) before in
-      let own = more_placed (layout_in m) k more ks placed in
+      let own = more_placed m.keeps_bound_offsets (layout_in m) k more ks placed in
       by ws own.0 own.1 own.2 parts.0 (subst (λ ks. HaveLayoutsOf ks ws) (sym own.4) have) sizes
       (λ ws. laid_from (i + 1) more own.1 ws own.3 parts.1)
     where
-      by : (ws : List Member) (p : Placed) (ps : List Placed) → placed_member (layout_in m) k ≡ Some p →
+      by : (ws : List Member) (p : Placed) (ps : List Placed) →
+          placed_member m.keeps_bound_offsets (layout_in m) k ≡ Some p →
           nat_lt k.ty h ≡ true →
           HaveLayoutsOf (p ∷ ps) ws →
           ((j : ℕ) (w : Member) → slice_get ws j ≡ Some w → written_size m h (i + j) ≡ w.given) →
@@ -191,33 +185,43 @@ module _ (m : Module) (structs : List Struct) (count : ℕ → ℕ) (order : Sta
   }
 
   -- ---- structs that are concerned
-  only_concerned : (xs ks : List Placed) → concerned_only xs ≡ Some ks → (is_concerned xs ≡ true) × (xs ≡ ks)
-  only_concerned xs ks is =
-      let parts = if_some (is_concerned xs) (Some xs) ks is in (parts.0, same_Some xs ks parts.1)
+  only_concerned : (bindings : Bool) (xs ks : List Placed) → concerned_only bindings xs ≡ Some ks →
+      (are_to_keep bindings xs ≡ true) × (xs ≡ ks)
+  only_concerned bindings xs ks is =
+      let parts = if_some (are_to_keep bindings xs) (Some xs) ks is in (parts.0, same_Some xs ks parts.1)
+
+  -- one of its members has a binding that is kept, or a struct in it with such a member
+  abbrev bound : TypeInner → Bool
+  bound it = keeps_bindings m (members_of it)
 
   -- what makes a struct one
   pub record IsConcerned (h : ℕ) (it : TypeInner) (ks : List Placed) : Type 0 where
     pub declared : is_declared m.special_types h it ≡ true
-    pub placed : placed_members (layout_in m) (members_of it) ≡ Some ks
+    pub placed : placed_in m (members_of it) ≡ Some ks
     pub concerned : is_concerned ks ≡ true
+    pub can : (not (bound it) || are_kept None ks) ≡ true
 
   pub concerned_parts : (h : ℕ) (it : TypeInner) (ks : List Placed) → concerned_of m h it ≡ Some ks →
       IsConcerned h it ks
   concerned_parts h it ks is =
       let parts = if_some (is_declared m.special_types h it)
-      (option_and_then concerned_only (placed_members (layout_in m) (members_of it))) ks is in
-      let own = then_some concerned_only (placed_members (layout_in m) (members_of it)) ks parts.1 in
-      let only = only_concerned own.0 ks own.2 in record {
+      (option_and_then (concerned_only (bound it)) (placed_in m (members_of it))) ks is in
+      let own = then_some (concerned_only (bound it)) (placed_in m (members_of it)) ks parts.1 in
+      let only = only_concerned (bound it) own.0 ks own.2 in
+      let to_keep = and_parts (not (bound it) || are_kept None ks) (is_concerned ks)
+      (ap (are_to_keep (bound it)) (sym only.1) ∙ only.0) in record {
         declared = parts.0;
         placed = own.1 ∙ ap (λ ks. Some ks) only.1;
-        concerned = ap is_concerned (sym only.1) ∙ only.0;
+        concerned = to_keep.1;
+        can = to_keep.0;
       }
 
   concerned_from : (h : ℕ) (it : TypeInner) (ks : List Placed) → IsConcerned h it ks → concerned_of m h it ≡ Some ks
   concerned_from h it ks is =
-      ap (λ b. if b then option_and_then concerned_only (placed_members (layout_in m) (members_of it))
+      ap (λ b. if b then option_and_then (concerned_only (bound it)) (placed_in m (members_of it))
       else None) is.declared
-      ∙ (ap (option_and_then concerned_only) is.placed ∙ ap (λ b. if b then Some ks else None) is.concerned)
+      ∙ (ap (option_and_then (concerned_only (bound it))) is.placed
+      ∙ ap₂ (λ a b. if a && b then Some ks else None) is.can is.concerned)
 
   sizes_are : (h : ℕ) (it : TypeInner) (ks : List Placed) → IsTypeAt h it → IsConcerned h it ks → (j : ℕ) (w : Member) →
       slice_get (written_members (span_of it) ks) j ≡ Some w → written_size m h (0 + j) ≡ w.given
@@ -261,11 +265,11 @@ module _ (m : Module) (structs : List Struct) (count : ℕ → ℕ) (order : Sta
 
     -- a struct that has a layout is concerned
     concerns : (ks : List Placed) (span : ℕ) (l : Layout) → kept_members span ks ≡ Some l →
-        (is_concerned ks ≡ true) × (struct_layout (written_members span ks) ≡ Some l)
+        (is_concerned ks ≡ true) × (are_kept None ks ≡ true) × (struct_layout (written_members span ks) ≡ Some l)
     concerns [] span l is = absurd cc
     concerns (k ∷ left) span l is =
         let parts = if_some (are_kept None (k ∷ left)) (struct_layout (written_members span (k ∷ left))) l is in
-        (kept_concerned k left parts.0, parts.1)
+        (kept_concerned k left parts.0, parts.0, parts.1)
 
     named_read : (it : TypeInner) (ks : List Placed) (l : Layout) → IsTypeAt h it → IsConcerned h it ks →
         struct_layout (written_members (span_of it) ks) ≡ Some l → (levels : ℕ) → suc (count h) ≤ levels →
@@ -354,11 +358,16 @@ module _ (m : Module) (structs : List Struct) (count : ℕ → ℕ) (order : Sta
         array_is_read depth levels base n l deep le (ltb-true base h type.before) is
     inner_is_read depth levels deep le (inner.Struct members span) type l is =
         let declared = if_some (not (is_undeclared m.special_types h))
-        (kept_struct (layout_in m) members.items span) l is in
-        let kept = then_some (kept_members span) (placed_members (layout_in m) members.items) l declared.1 in
+        (kept_struct m.keeps_bound_offsets (layout_in m) members.items span) l is in
+        let kept = then_some (kept_members span) (placed_in m members.items) l declared.1 in
         let is = concerns kept.0 span l kept.2 in
         struct_is_read depth levels (inner.Struct members span) kept.0 l type
-        (record { declared = declared.0; placed = kept.1; concerned = is.0 }) is.1 le
+        (record {
+          declared = declared.0;
+          placed = kept.1;
+          concerned = is.0;
+          can = able (keeps_bindings m members.items) (are_kept None kept.0) is.1;
+        }) is.2 le
     inner_is_read depth levels deep le _ type l is = absurd cc
 
   -- what has a layout is there

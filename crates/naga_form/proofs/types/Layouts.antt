@@ -24,7 +24,7 @@ use Rattle.naga_layout.proofs.Left.{all_aligned, members_aligned}
 use Rattle.naga_layout.proofs.Levels.{layout_is}
 use Rattle.naga_layout.proofs.Told.{told_alike}
 use Rattle.naga_layout.specs.Types.{StandInOrder, kept_members, kept_struct, layout_at}
-use Rattle.naga_layout.specs.Types.{named_layout_by, placed_members, user_rule}
+use Rattle.naga_layout.specs.Types.{named_layout_by, told_rule}
 use Rattle.naga_naming.specs.Reset.{members_of}
 use Rattle.naga_naming.specs.declared.key.NameKey.TheVariants as key
 use Rattle.module_semantics.proofs.Layouts.{stand_in_order}
@@ -32,7 +32,8 @@ use Rattle.module_semantics.specs.acceptance.Accepted.{is_accepted}
 use Rattle.module_semantics.specs.DeclarationForms.{DeclarationsHaveForms}
 use Rattle.module_semantics.specs.DeclaredItems.{struct_number}
 use Rattle.module_semantics.specs.Layouts.{KeepsLayout, KeepsLayouts, TellsLayouts, concerned_members}
-use Rattle.module_semantics.specs.Layouts.{concerned_of, layout_in, module_rule, span_at, span_of}
+use Rattle.module_semantics.specs.Layouts.{concerned_of, layout_in, module_rule, placed_in, span_at}
+use Rattle.module_semantics.specs.Layouts.{span_of}
 use Rattle.module_semantics.specs.Names.{LabelNames, module_names, name_in}
 use Rattle.module_semantics.specs.acceptance.Ranges.{parts_stand_before}
 use Rattle.module_semantics.specs.Types.{type_names}
@@ -210,25 +211,25 @@ module _ (m : Module) (info : ModuleInfo) (flags : WriterFlags) (labels : LabelN
 
     -- how a struct is laid out whose members can be left where they are
     own_layout : (h : ℕ) (it : TypeInner) (ks : List Placed) (l : Layout) → is_declared m.special_types h it ≡ true →
-        placed_members (layout_in m) (members_of it) ≡ Some ks → are_kept None ks ≡ true →
+        placed_in m (members_of it) ≡ Some ks → are_kept None ks ≡ true →
         struct_layout (written_members (span_of it) ks) ≡ Some l →
         named_layout_by (module_rule m) (layout_in m) h it ≡ Some l
     own_layout h (inner.Struct members span) ks l declared placed kept laid =
-        ap (λ b. if b then kept_struct (layout_in m) members.items span else None)
+        ap (λ b. if b then kept_struct m.keeps_bound_offsets (layout_in m) members.items span else None)
         (and_parts true (not (is_undeclared m.special_types h)) declared).1
         ∙ (ap (option_and_then (kept_members span)) placed
         ∙ (ap (λ b. if b then struct_layout (written_members span ks) else None) kept ∙ laid))
     own_layout h _ ks l declared placed kept laid = absurd cc
 
     -- what users are told of it is how the text's structs are laid out
-    tells_one : (h : ℕ) (ty : Type_) (ks : List Placed) (l : Layout) → slice_get m.types h ≡ Some ty →
+    tells_one : (bound : Bool) (h : ℕ) (ty : Type_) (ks : List Placed) (l : Layout) → slice_get m.types h ≡ Some ty →
         concerned_members m h ≡ Some ks →
         AllAligned ks → is_concerned ks ≡ true → is_declared m.special_types h ty.inner ≡ true →
-        placed_members (layout_in m) (members_of ty.inner) ≡ Some ks → layout_at user_rule m.types h ≡ Some l →
+        placed_in m (members_of ty.inner) ≡ Some ks → layout_at (told_rule bound) m.types h ≡ Some l →
         struct_layout_read program.structs ((type_names m).struct_name h) ≡ Some l
     unfolding struct_layout_read
-    tells_one h ty [] l at is aligned concerned declared placed told = absurd cc
-    tells_one h ty (k ∷ left) l at is aligned concerned declared placed told =
+    tells_one bound h ty [] l at is aligned concerned declared placed told = absurd cc
+    tells_one bound h ty (k ∷ left) l at is aligned concerned declared placed told =
         let span = ap (λ o. option_map_or (λ ty. span_of ty.inner) o 0) at in
         let kept = are_kept_here h (k ∷ left) is concerned in
         let whole = ended (span_at m h) (greatest_placed 0 (k ∷ left)) (last_of k left) in
@@ -236,18 +237,18 @@ module _ (m : Module) (info : ModuleInfo) (flags : WriterFlags) (labels : LabelN
         struct_is_laid m program.structs count order are_found more h ty (k ∷ left) at is
         (length program.structs) (are_counted (suc h)) whole laid
         ∙ ap (λ l. Some l)
-        (sym (told_alike (module_rule m) m.types h l whole told
+        (sym (told_alike bound (module_rule m) m.types h l whole told
         (layout_is (module_rule m) m.types order h ty at
         ∙ own_layout h ty.inner (k ∷ left) whole declared placed kept
         (ap (λ span. struct_layout (written_members span (k ∷ left))) (sym span) ∙ laid))))
 
     tells : TellsLayouts m program
-    tells h ks l is told =
+    tells bound h ks l is told =
         let own = then_some (λ ty. concerned_of m h ty.inner) (slice_get m.types h) ks is in
         let parts = concerned_parts m program.structs count order are_found more h own.0.inner ks own.2 in
         subst (λ w. struct_layout_read program.structs w ≡ Some l) (or_nothing (module_names m (key.Type_ h)))
-        (tells_one h own.0 ks l own.1 is (members_aligned (layout_in m) (all_aligned (module_rule m) m.types)
-        (members_of own.0.inner) ks parts.placed)
+        (tells_one bound h own.0 ks l own.1 is (members_aligned m.keeps_bound_offsets (layout_in m)
+        (all_aligned (module_rule m) m.types) (members_of own.0.inner) ks parts.placed)
         parts.concerned parts.declared parts.placed told)
 
     keeps : KeepsLayouts m program
@@ -255,8 +256,8 @@ module _ (m : Module) (info : ModuleInfo) (flags : WriterFlags) (labels : LabelN
         let own = then_some (λ ty. concerned_of m h ty.inner) (slice_get m.types h) ks is in
         let parts = concerned_parts m program.structs count order are_found more h own.0.inner ks own.2 in
         subst (λ w. KeepsLayout program.structs w (span_at m h) ks) (or_nothing (module_names m (key.Type_ h)))
-        (keeps_one h own.0 ks own.1 is (members_aligned (layout_in m) (all_aligned (module_rule m) m.types)
-        (members_of own.0.inner) ks parts.placed) parts.concerned)
+        (keeps_one h own.0 ks own.1 is (members_aligned m.keeps_bound_offsets (layout_in m)
+        (all_aligned (module_rule m) m.types) (members_of own.0.inner) ks parts.placed) parts.concerned)
 
 -- an accepted module's layouts are kept, where all that it declares has a form
 pub keeps_layouts : (m : Module) (info : ModuleInfo) (flags : WriterFlags) (labels : LabelNames) →

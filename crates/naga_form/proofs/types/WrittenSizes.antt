@@ -4,7 +4,7 @@
 -- size that it is given, ss are members of a type and ks the same as the module places them.
 use Rattle.std.proofs.Common.{◌≡◌, ℕ, zero, suc, ◌-◌, ◌<◌, ◌≤◌, ◌^◌, Bool, true, false, List, []}
 use Rattle.std.proofs.Common.{◌∷◌, Option, Some, None, refl, sym, ap, subst, ◌∙◌, arith}
-use Rattle.std.specs.Prelude.{⊤, slice_get, if◌then◌else◌, nat_lt, ◌%◌, ◌+◌, ◌==◌, ◌&&◌}
+use Rattle.std.specs.Prelude.{⊤, slice_get, if◌then◌else◌, nat_lt, ◌%◌, ◌+◌, ◌==◌, ◌&&◌, ◌||◌}
 use Rattle.std.specs.Int.{next_multiple_of}
 use Rattle.std.specs.List.{list_all}
 use Rattle.std.specs.Option.{is_none, option_and_then, option_map, option_map_or}
@@ -17,11 +17,11 @@ use Rattle.naga_ir.specs.declared.types.TypeInner.{TypeInner}
 use Rattle.naga_ir.specs.declared.types.TypeInner.TheVariants as inner
 use Rattle.naga_layout.specs.Types.{placed_members}
 use Rattle.naga_naming.specs.Reset.{members_of}
-use Rattle.wgsl_layout.specs.Members.{gap_size, is_concerned, sized_members}
+use Rattle.wgsl_layout.specs.Members.{gap_size, sized_members}
 use Rattle.wgsl_layout.specs.declared.layouts.Layout.{Layout}
 use Rattle.wgsl_layout.specs.declared.layouts.Placed.{Placed}
-use Rattle.module_semantics.specs.Layouts.{concerned_of, concerned_only, layout_in, size_among}
-use Rattle.module_semantics.specs.Layouts.{span_of, written_size}
+use Rattle.module_semantics.specs.Layouts.{are_to_keep, concerned_of, concerned_only, keeps_bindings}
+use Rattle.module_semantics.specs.Layouts.{layout_in, placed_in, size_among, span_of, written_size}
 use Rattle.module_semantics.specs.acceptance.Numbers.{binding_fits_32_bits, fits_32_bits}
 use Rattle.module_semantics.specs.acceptance.Numbers.{member_fits_32_bits, type_fits_32_bits}
 use Rattle.module_semantics.specs.Undeclared.{is_declared}
@@ -32,19 +32,19 @@ abbrev AllFit : List Placed → Type 0
 AllFit [] = ⊤
 AllFit (k ∷ more) = (k.offset < 2 ^ 32) × AllFit more
 
-placed_fit : (f : ℕ → Option Layout) (ss : List StructMember) → list_all member_fits_32_bits ss ≡ true →
-    (ks : List Placed) → placed_members f ss ≡ Some ks → AllFit ks
-placed_fit f [] fit ks is = subst AllFit (same_Some [] ks is) tt
-placed_fit f (s ∷ ss) fit ks is =
+placed_fit : (bound : Bool) (f : ℕ → Option Layout) (ss : List StructMember) →
+    list_all member_fits_32_bits ss ≡ true → (ks : List Placed) → placed_members bound f ss ≡ Some ks → AllFit ks
+placed_fit bound f [] fit ks is = subst AllFit (same_Some [] ks is) tt
+placed_fit bound f (s ∷ ss) fit ks is =
     let parts = and_parts (member_fits_32_bits s) (list_all member_fits_32_bits ss) fit in
     let offset = and_parts (fits_32_bits s.offset) (option_map_or binding_fits_32_bits s.binding true) parts.0 in
-    by (is_none s.binding) (f s.ty) (placed_members f ss)
-    (ltb-true s.offset (2 ^ 32) offset.0) (placed_fit f ss parts.1) is
+    by (bound || is_none s.binding) (f s.ty) (placed_members bound f ss) (ltb-true s.offset (2 ^ 32) offset.0)
+    (placed_fit bound f ss parts.1) is
   where
-    by : (unbound : Bool) (l : Option Layout) (more : Option (List Placed)) → s.offset < 2 ^ 32 →
+    by : (laid : Bool) (l : Option Layout) (more : Option (List Placed)) → s.offset < 2 ^ 32 →
         ((ps : List Placed) → more ≡ Some ps → AllFit ps) →
         option_and_then (λ p. option_map (λ ps. p ∷ ps) more)
-        (if unbound then option_map (λ l. record { layout = l; offset = s.offset }) l else None)
+        (if laid then option_map (λ l. record { layout = l; offset = s.offset }) l else None)
         ≡ Some ks → AllFit ks
     by true (Some l) (Some more) below rest is =
         subst AllFit (same_Some (record { layout = l; offset = s.offset } ∷ more) ks is) (below, rest more refl)
@@ -88,18 +88,19 @@ type_parts _ fits = (refl, omega arith)
 concerned_fit : (m : Module) (h : ℕ) (it : TypeInner) → type_fits_32_bits it ≡ true → (ks : List Placed) →
     concerned_of m h it ≡ Some ks → AllFit ks
 concerned_fit m h it fits ks is =
-    by (is_declared m.special_types h it) (placed_members (layout_in m) (members_of it)) refl is
+    by (is_declared m.special_types h it) (placed_in m (members_of it)) refl is
   where
-    kept : (ps : List Placed) → placed_members (layout_in m) (members_of it) ≡ Some ps → (concerned : Bool) →
+    kept : (ps : List Placed) → placed_in m (members_of it) ≡ Some ps → (concerned : Bool) →
         (if concerned then Some ps else None) ≡ Some ks → AllFit ks
     kept ps at true is =
         subst AllFit (same_Some ps ks is)
-        (placed_fit (layout_in m) (members_of it) (type_parts it fits).0 ps at)
+        (placed_fit m.keeps_bound_offsets (layout_in m) (members_of it) (type_parts it fits).0 ps at)
     kept ps at false is = absurd cc
 
-    by : (declared : Bool) (placed : Option (List Placed)) → placed_members (layout_in m) (members_of it) ≡ placed →
-        (if declared then option_and_then concerned_only placed else None) ≡ Some ks → AllFit ks
-    by true (Some ps) at is = kept ps at (is_concerned ps) is
+    by : (declared : Bool) (placed : Option (List Placed)) → placed_in m (members_of it) ≡ placed →
+        (if declared then option_and_then (concerned_only (keeps_bindings m (members_of it))) placed
+        else None) ≡ Some ks → AllFit ks
+    by true (Some ps) at is = kept ps at (are_to_keep (keeps_bindings m (members_of it)) ps) is
     by true None at is = absurd cc
     by false placed at is = absurd cc
 

@@ -15,6 +15,7 @@ returns c =
     let same = c.deref.ensures.value ∙ ap (λ (t : Tables). t.undeclared) c.self.view_is in
     c.is_some.ensures
     ∙ (ap is_some c.kept_struct.ensures
-    ∙ (some_kept capped (kept_struct (layout_at (written_rule marks) m.types) c.args.members.now c.args.span)
-    ∙ ap (λ rule. is_some (kept_struct (layout_at rule m.types) c.args.members.now c.args.span))
+    ∙ (some_kept capped (kept_struct m.keeps_bound_offsets (layout_at (written_rule m.keeps_bound_offsets marks) m.types)
+    c.args.members.now c.args.span)
+    ∙ ap (λ rule. is_some (kept_struct m.keeps_bound_offsets (layout_at rule m.types) c.args.members.now c.args.span))
     (rules_alike m marks (subst (MarksUndeclared m) (sym same) c.requires.tables.undeclared))))

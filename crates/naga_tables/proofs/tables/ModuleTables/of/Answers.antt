@@ -9,4 +9,5 @@ returns c = record {
   type_forms = c.in_ok-type_forms.ensures;
   layouts = c.in_ok-layouts.ensures;
   strides = c.in_ok-strides.ensures;
+  bindings = c.in_ok-bindings.ensures;
 }
