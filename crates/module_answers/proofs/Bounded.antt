@@ -23,7 +23,8 @@ use Rattle.naga_wgsl_out.proofs.ModuleScopes.{each_writable}
 use Rattle.module_answers.specs.Counts.{IsReady}
 use Rattle.module_answers.specs.Opening.{opening}
 use Rattle.module_answers.specs.Within.{IsPastAfter, IsTooLong}
-use Rattle.module_answers.specs.WriteOutcomes.{AnswersWriting, TellsBeside}
+use Rattle.module_answers.specs.WriteOutcomes.{AnswersWriting}
+use Rattle.naga_wgsl_out.specs.Unwritable.{TellsBeside}
 
 -- ---- a text that is too long
 

@@ -1,43 +1,18 @@
 -- What is told of an accepted module that the writer was asked for.
 --
--- Throughout, m is the module, info is what is known of it with its uses counted, explicit says
--- whether `let`s tell types, and answer says whether the module is written, or why not.
-use Rattle.std.specs.Prelude.{ℕ, Bool, List, IfErr, IsErrAnd, MatchOption, OnOk, Option, Result}
+-- Throughout, m is the module, info is what is known of it with its uses counted, and answer says
+-- whether the module is written, or why not.
+use Rattle.std.specs.Prelude.{ℕ, List, OnOk, Option, Result}
 use Rattle.naga_back.specs.Flags.{annotates_types}
 use Rattle.naga_back.specs.declared.flags.WriterFlags.{WriterFlags}
 use Rattle.naga_info.specs.declared.info.ModuleInfo.{ModuleInfo}
 use Rattle.naga_ir.specs.declared.module.Module.{Module}
-use Rattle.naga_refusals.specs.Constructs.{IsToldAs}
-use Rattle.naga_refusals.specs.Errors.{TellsOfModule}
-use Rattle.naga_refusals.specs.declared.construct.Construct.{Construct}
 use Rattle.naga_refusals.specs.declared.error.Error.{Error}
 use Rattle.naga_wgsl_out.specs.Headline.{EachReading, FaithfulWriting, MatchesModule}
 use Rattle.naga_wgsl_out.specs.Leaving.{Leaves}
-use Rattle.naga_wgsl_out.specs.Unwritable.{IsFirst, StandsAt, StandsIn}
+use Rattle.naga_wgsl_out.specs.Unwritable.{TellsBeside}
 use Rattle.naga_wgsl_out.specs.Writing.{AppendsItsText}
 use Rattle.naga_wgsl_out.specs.declared.unwritable.Refusal.{Refusal}
-use Rattle.naga_scope.specs.declared.positions.RefusalPosition.{RefusalPosition}
-
--- the error names a construct that stands at this position
-abbrev pub NamesAt : (explicit : Bool) → Module → ModuleInfo → RefusalPosition → Error → Type 0
-NamesAt explicit m info at error =
-    (it : Construct) × StandsAt explicit m info at it × IsToldAs it error
-
--- The answer is an error that tells of the module, and a refusal is told beside it: its construct
--- stands there, and nothing stands in front of it for which the module is refused. What the error
--- names stands at the same position.
-pub record TellsRefusal (explicit : Bool) (m : Module) (info : ModuleInfo)
-    (answer : Result Unit Error) (refusal : Refusal) : Type 0 where
-  pub tells : IsErrAnd answer TellsOfModule
-  pub stands : StandsIn explicit m info refusal
-  pub first : IsFirst explicit m info refusal.position
-  pub named : IsErrAnd answer (NamesAt explicit m info refusal.position)
-
--- a refusal is told beside the answer just where that is an error that tells of the module
-abbrev pub TellsBeside : (explicit : Bool) → Module → ModuleInfo → (answer : Result Unit Error) →
-    (told : Option Refusal) → Type 0
-TellsBeside explicit m info answer told =
-    MatchOption told (IfErr answer (λ e. TellsOfModule e → ⊥)) (TellsRefusal explicit m info answer)
 
 -- The writer was asked for the module, and flags say how it is written. Its sink held content before
 -- and holds now after, and had failed so often before and has failed so often after. This was

@@ -30,4 +30,4 @@ pub use naga_wgsl_shared::{
     Construct, Error, names_undeclared, put, to_wgsl_if_implemented, write_binding,
     write_global_expression, write_literal,
 };
-pub use plans::{Unplanned, construct_of_names, plan_of, plan_or_refusal};
+pub use plans::{Unplanned, construct_of_names, plan_of, plan_or_refusal, unplanned_error};

@@ -62,8 +62,9 @@ pub fn plan_of(known: &KnownModule<'_>, ty: &FunctionType, namer: &mut Namer) ->
     }
 }
 
-/// The refusal that names the construct, or want of memory, here or for its text.
-fn unplanned_error(alloc: Global, unplanned: Unplanned) -> Error
+/// The refusal that names the construct for which there is no plan, or want of memory, there or here
+/// for its text.
+pub fn unplanned_error(alloc: Global, unplanned: Unplanned) -> Error
     ensures { TellsUnplanned unplanned result }
 {
     match unplanned {

@@ -34,9 +34,8 @@ use Rattle.naga_scope.specs.UnsupportedStatements.{IsUnsupportedAt, unsupported_
 use Rattle.naga_tables.proofs.Refusals.{type_refused}
 use Rattle.naga_tables.specs.Refusals.{unspelled}
 use Rattle.naga_wgsl_fns.specs.PlanRefusals.{IsConstructOf, IsConstructOfNames}
-use Rattle.naga_wgsl_fns.specs.Unplanned.{IsRefusedFor, IsToldOfUnplanned, IsUnplanned, function_position}
+use Rattle.naga_wgsl_fns.specs.Unplanned.{IsRefusedFor, IsUnplanned, TellsUnplanned, function_position}
 use Rattle.naga_refusals.specs.declared.error.Error.{Error}
-use Rattle.naga_refusals.specs.declared.error.Error.TheVariants.{Custom, Memory}
 use Rattle.naga_wgsl_fns.specs.declared.plans.Unplanned.{Unplanned}
 use Rattle.naga_wgsl_fns.specs.declared.plans.Unplanned.TheVariants as unplanned
 use Rattle.naga_refusals.specs.declared.construct.Construct.{Construct}
@@ -48,12 +47,12 @@ use Rattle.naga_back.specs.Flags.{annotates_types}
 use Rattle.naga_back.specs.declared.flags.WriterFlags.{WriterFlags}
 use Rattle.naga_wgsl_out.proofs.Faithful.{want_tells_nothing}
 use Rattle.naga_wgsl_out.proofs.Functions.{IsUpTo}
-use Rattle.naga_wgsl_out.specs.ModuleRefusals.{HasAllNames, HasNamedBefore, IsNamesRefusal}
+use Rattle.naga_wgsl_out.specs.ModuleRefusals.{HasAllNames, HasNamedBefore}
 use Rattle.naga_wgsl_out.specs.ModuleRefusals.{NamerIsFull, NothingIsRefused}
-use Rattle.naga_wgsl_out.specs.Unwritable.{AreWritableBefore, IsFirst, IsFoundOf, IsRefusalOf}
+use Rattle.naga_wgsl_out.specs.Unwritable.{AreWritableBefore, IsFirst, IsFoundOf, IsFoundOfNames, IsRefusalOf}
 use Rattle.naga_wgsl_out.specs.Unwritable.{IsUnspellable, IsWritable, LabelsGetNamesIn, StandsAt}
 use Rattle.naga_wgsl_out.specs.Unwritable.{StandsAtPart, StandsIn, StandsInFunction, StandsInLabels}
-use Rattle.naga_wgsl_out.specs.Unwritable.{TellsFirst, TellsRefusalOf, position_at}
+use Rattle.naga_wgsl_out.specs.Unwritable.{TellsBeside, TellsFirst, TellsFound, TellsRefusalOf, found_of, position_at}
 use Rattle.naga_wgsl_out.specs.declared.unwritable.Refusal.{Refusal}
 use Rattle.naga_scope.specs.declared.positions.RefusalPosition.TheVariants as position
 use Rattle.naga_back.specs.declared.context.FunctionType.{FunctionType}
@@ -140,15 +139,16 @@ module _ (explicit : Bool) (m : Module) (info : ModuleInfo) (accepted : IsTrue (
       (at, refl, subst (λ n. StandsInFunction explicit m info n (it, at)) same (stands_in it at r))
 
   -- and so what is told of it
-  pub told_of : (ty : FunctionType) → number ≡ function_number m ty → (error : Error) →
-      IsToldOfUnplanned explicit m info number namer error → TellsOfModule error →
-      TellsRefusalOf explicit m info ty error
-  told_of ty same error (unplanned.Refused it at, r, told) of = record {
+  pub told_of : (ty : FunctionType) → number ≡ function_number m ty → (found : Option Refusal) (u : Unplanned)
+      (error : Error) → found ≡ found_of ty u → IsUnplanned explicit m info number namer u → TellsUnplanned u error →
+      TellsOfModule error → TellsRefusalOf explicit m info ty found error
+  told_of ty same found (unplanned.Refused it at) error is r told of = record {
     refusal = record { construct = it; position = position_at ty at };
     is = (at, refl, subst (λ n. StandsInFunction explicit m info n (it, at)) same (stands_in it at r));
     told = told;
+    found_is = is;
   }
-  told_of ty same error (unplanned.Memory e, r, told) of = absurd (subst TellsOfModule told of)
+  told_of ty same found (unplanned.Memory e) error is r told of = absurd (subst TellsOfModule told of)
 
 -- what is known of a function that there is
 pub known_at : (m : Module) (info : ModuleInfo) → IsTrue (is_accepted m info) → (number : ℕ) (f : Function) →
@@ -216,15 +216,18 @@ refusal_first explicit m info (item.Function h) refusal r before = subst (IsFirs
 refusal_first explicit m info (item.EntryPoint i) refusal r before = subst (IsFirst explicit m info) (sym r.1) before
 
 -- so is what is told of it
-pub told_first : (explicit : Bool) (m : Module) (info : ModuleInfo) (ty : FunctionType) (error : Error) →
-    HasHandle m ty → AreWritableBefore explicit m info (function_number m ty) →
-    TellsRefusalOf explicit m info ty error → TellsFirst explicit m info error
-told_first explicit m info ty error there before tells = record {
-  refusal = tells.refusal;
-  stands = refusal_stands explicit m info ty tells.refusal there tells.is;
-  first = refusal_first explicit m info ty tells.refusal tells.is before;
-  told = tells.told;
-}
+pub told_first : (explicit : Bool) (m : Module) (info : ModuleInfo) (ty : FunctionType) (found : Option Refusal)
+    (error : Error) → HasHandle m ty → AreWritableBefore explicit m info (function_number m ty) →
+    TellsRefusalOf explicit m info ty found error → TellsFound explicit m info found error
+told_first explicit m info ty found error there before tells = (
+  record {
+    refusal = tells.refusal;
+    stands = refusal_stands explicit m info ty tells.refusal there tells.is;
+    first = refusal_first explicit m info ty tells.refusal tells.is before;
+    told = tells.told;
+  },
+  tells.found_is,
+)
 
 -- so a construct in the next one is the first
 pub before_writable : (explicit : Bool) (m : Module) (info : ModuleInfo) (names : NameMap) (n : ℕ) (namer : Names) →
@@ -279,23 +282,53 @@ labels_stand m namer_error.Full it refused is = inl (refused, is)
 labels_stand m namer_error.KeyFull it refused is = inr (refused, is)
 labels_stand m (namer_error.Memory e) it refused is = absurd is
 
--- and that they get none is told as such a construct
-pub labels_told : (explicit : Bool) (m : Module) (info : ModuleInfo) (error : Error) → DeclarationsHaveForms m →
-    IsNamesRefusal m error → TellsOfModule error → TellsFirst explicit m info error
-labels_told explicit m info (Custom message) declarations (inl is) of = record {
-  refusal = record { construct = construct.FullNamer; position = position.Labels };
-  stands = inl (is.1, refl);
-  first = declarations;
-  told = is.0;
-}
-labels_told explicit m info (Custom message) declarations (inr is) of = record {
-  refusal = record { construct = construct.NameKey; position = position.Labels };
-  stands = inr (is.1, refl);
-  first = declarations;
-  told = is.0;
-}
-labels_told explicit m info (Memory e) declarations is of = absurd of
-labels_told explicit m info _ declarations is of = absurd is
+-- and that they get none is told as such a construct, which is what is found
+pub labels_found : (explicit : Bool) (m : Module) (info : ModuleInfo) (found : Option Refusal) (error : Error) →
+    DeclarationsHaveForms m → IsFoundOfNames m found error → TellsOfModule error →
+    TellsFound explicit m info found error
+labels_found explicit m info found error declarations (namer_error.Full, is, refused, told) of = (
+  record {
+    refusal = record { construct = construct.FullNamer; position = position.Labels };
+    stands = labels_stand m namer_error.Full construct.FullNamer refused refl;
+    first = declarations;
+    told = told;
+  },
+  is,
+)
+labels_found explicit m info found error declarations (namer_error.KeyFull, is, refused, told) of = (
+  record {
+    refusal = record { construct = construct.NameKey; position = position.Labels };
+    stands = labels_stand m namer_error.KeyFull construct.NameKey refused refl;
+    first = declarations;
+    told = told;
+  },
+  is,
+)
+labels_found explicit m info found error declarations (namer_error.Memory e, is, refused, told) of =
+    absurd (subst TellsOfModule told of)
+
+-- an error that tells what was found tells the first
+pub found_first : (explicit : Bool) (m : Module) (info : ModuleInfo) (found : Option Refusal) (r : Result Unit Error) →
+    IfErr r (λ e. TellsOfModule e → TellsFound explicit m info found e) →
+    IfErr r (λ e. TellsOfModule e → TellsFirst explicit m info e)
+found_first explicit m info found (Ok x) told = tt
+found_first explicit m info found (Err e) told = λ of. (told of).0
+
+-- and what was found is told beside it
+pub found_beside : (explicit : Bool) (m : Module) (info : ModuleInfo) (found : Option Refusal)
+    (answer : Result Unit Error) → IsErrAnd answer TellsOfModule →
+    IfErr answer (λ e. TellsOfModule e → TellsFound explicit m info found e) →
+    TellsBeside explicit m info answer found
+found_beside explicit m info found (Ok x) tells told = absurd tells
+found_beside explicit m info found (Err e) tells told =
+    let own = told tells in
+    subst (λ o. TellsBeside explicit m info (Err e) o) (sym own.1)
+    (record {
+      tells = tells;
+      stands = own.0.stands;
+      first = own.0.first;
+      named = (own.0.refusal.construct, own.0.stands, own.0.told);
+    })
 
 -- ---- no refusal
 -- a call that ends early for want of memory or of the sink tells nothing

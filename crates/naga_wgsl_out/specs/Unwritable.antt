@@ -3,13 +3,13 @@
 -- Throughout, m is the module, info what is known of it, f is a function, known what is known of its
 -- expressions, number that of a function or an entry point, explicit says whether `let`s tell types,
 -- it is a construct and at is where it stands.
-use Rattle.std.specs.Prelude.{◌≡◌, ℕ, ◌+◌, ◌<◌, ◌⊎◌, Bool, List, Option, Some, IsSomeAnd}
-use Rattle.std.specs.Prelude.{length, slice_get}
+use Rattle.std.specs.Prelude.{◌≡◌, ℕ, ◌+◌, ◌<◌, ◌⊎◌, Bool, List, Option, None, Some, IsSomeAnd}
+use Rattle.std.specs.Prelude.{IfErr, IsErrAnd, MatchOption, Result, length, slice_get}
 use Rattle.std.specs.List.{IsAmong}
 use Rattle.module_semantics.specs.DeclarationForms.{DeclarationsHaveForms}
 use Rattle.module_semantics.specs.FunctionNumbers.{all_functions, all_infos, function_number}
 use Rattle.module_semantics.specs.FunctionShapes.{function_shape}
-use Rattle.module_semantics.specs.Names.{labels_before}
+use Rattle.module_semantics.specs.Names.{labels_before, wgsl_names}
 use Rattle.module_semantics.specs.Written.{IsSpelledIn}
 use Rattle.naga_back.specs.declared.context.FunctionType.{FunctionType}
 use Rattle.naga_back.specs.declared.context.FunctionType.TheVariants as item
@@ -20,6 +20,10 @@ use Rattle.naga_info.specs.declared.info.TypeResolution.TheVariants.{Handle}
 use Rattle.naga_ir.specs.declared.module.Function.{Function}
 use Rattle.naga_ir.specs.declared.module.Module.{Module}
 use Rattle.naga_naming.specs.Naming.{Names}
+use Rattle.naga_naming.specs.Refusal.{IsResetRefusal}
+use Rattle.naga_naming.specs.declared.error.NamerError.{NamerError}
+use Rattle.naga_naming.specs.declared.error.NamerError.TheVariants as namer_error
+use Rattle.naga_refusals.specs.Errors.{IsErrorOfNames, TellsOfModule}
 use Rattle.naga_tables.specs.Declarations.{HaveFormsBefore, IsUnsupportedIn}
 use Rattle.naga_scope.specs.UnsupportedStatements.{IsUnsupportedAt, unsupported_statement}
 use Rattle.naga_scope.specs.Lines.{IsWrittenAt, declared_type, lets_at}
@@ -135,11 +139,29 @@ abbrev pub position_at : FunctionType → FunctionRefusalPosition → RefusalPos
 position_at (item.Function h) at = position.Function h at
 position_at (item.EntryPoint i) at = position.EntryPoint i at
 
--- that is found where it has no plan
+-- what is found where it has no plan: none, if memory ran out
+abbrev pub found_of : FunctionType → Unplanned → Option Refusal
+found_of ty (unplanned.Refused it at) = Some (record { construct = it; position = position_at ty at })
+found_of ty (unplanned.Memory e) = None
+
+-- that is found where it has no plan, and memory did not run out
 abbrev pub IsFoundOf : FunctionType → Unplanned → Option Refusal → Type 0
-IsFoundOf ty (unplanned.Refused it at) found =
-    found ≡ Some (record { construct = it; position = position_at ty at })
+IsFoundOf ty (unplanned.Refused it at) found = found ≡ found_of ty (unplanned.Refused it at)
 IsFoundOf ty (unplanned.Memory e) found = ⊥
+
+-- what is found where items have no names
+abbrev pub found_of_names : NamerError → Option Refusal
+found_of_names namer_error.Full =
+    Some (record { construct = construct.FullNamer; position = position.Labels })
+found_of_names namer_error.KeyFull =
+    Some (record { construct = construct.NameKey; position = position.Labels })
+found_of_names (namer_error.Memory e) = None
+
+-- that is found where the error tells why items have no names
+abbrev pub IsFoundOfNames : Module → (found : Option Refusal) → Error → Type 0
+IsFoundOfNames m found error =
+    (e : NamerError) × (found ≡ found_of_names e) × IsResetRefusal (wgsl_names m) m e
+    × IsErrorOfNames e error
 
 -- it is refused for this, which stands at a part of it
 abbrev pub IsRefusalOf : (explicit : Bool) → Module → ModuleInfo → FunctionType → Refusal → Type 0
@@ -163,9 +185,38 @@ pub record TellsFirst (explicit : Bool) (m : Module) (info : ModuleInfo)
   pub first : IsFirst explicit m info refusal.position
   pub told : IsToldAs refusal.construct error
 
--- an error names a construct that stands in this function
+-- and it is the refusal that was found
+abbrev pub TellsFound : (explicit : Bool) → Module → ModuleInfo → (found : Option Refusal) → Error →
+    Type 0
+TellsFound explicit m info found error =
+    (tells : TellsFirst explicit m info error) × (found ≡ Some tells.refusal)
+
+-- an error names a construct that stands in this function, which is the refusal that was found
 pub record TellsRefusalOf (explicit : Bool) (m : Module) (info : ModuleInfo) (ty : FunctionType)
-    (error : Error) : Type 0 where
+    (found : Option Refusal) (error : Error) : Type 0 where
   pub refusal : Refusal
   pub is : IsRefusalOf explicit m info ty refusal
   pub told : IsToldAs refusal.construct error
+  pub found_is : found ≡ Some refusal
+
+-- ---- what is told beside an answer
+-- the error names a construct that stands at this position
+abbrev pub NamesAt : (explicit : Bool) → Module → ModuleInfo → RefusalPosition → Error → Type 0
+NamesAt explicit m info at error =
+    (it : Construct) × StandsAt explicit m info at it × IsToldAs it error
+
+-- The answer is an error that tells of the module, and a refusal is told beside it: its construct
+-- stands there, and nothing stands in front of it for which the module is refused. What the error
+-- names stands at the same position.
+pub record TellsRefusal (explicit : Bool) (m : Module) (info : ModuleInfo)
+    (answer : Result Unit Error) (refusal : Refusal) : Type 0 where
+  pub tells : IsErrAnd answer TellsOfModule
+  pub stands : StandsIn explicit m info refusal
+  pub first : IsFirst explicit m info refusal.position
+  pub named : IsErrAnd answer (NamesAt explicit m info refusal.position)
+
+-- a refusal is told beside the answer just where that is an error that tells of the module
+abbrev pub TellsBeside : (explicit : Bool) → Module → ModuleInfo → (answer : Result Unit Error) →
+    (told : Option Refusal) → Type 0
+TellsBeside explicit m info answer told =
+    MatchOption told (IfErr answer (λ e. TellsOfModule e → ⊥)) (TellsRefusal explicit m info answer)

@@ -8,13 +8,13 @@ ghost use Rattle.naga_scope.specs.KnownModules.{IsKnownModule, explicit_in, numb
 ghost use Rattle.naga_wgsl_out.specs.Items.{CanWriteModule};
 ghost use Rattle.naga_wgsl_out.specs.ModuleRefusals.{HasNamedBefore, NothingIsRefused};
 ghost use Rattle.naga_wgsl_out.specs.Unwritable.{IsFirst, IsFoundOf, IsRefusalOf, IsWritable};
-ghost use Rattle.naga_wgsl_out.specs.Unwritable.{StandsIn, position_at};
+ghost use Rattle.naga_wgsl_out.specs.Unwritable.{StandsIn, found_of, found_of_names, position_at};
 
 use crate::writer::items_named;
 use naga_back::{FunctionType, WriterFlags};
 use naga_info::ModuleInfo;
 use naga_ir::{Function, Handle, ItemIndex, Module};
-use naga_names::namer::Namer;
+use naga_names::namer::{Namer, NamerError};
 use naga_refusals::Construct;
 use naga_scope::{FunctionRefusalPosition, KnownModule, RefusalPosition};
 use naga_tables::{ModuleTables, unsupported_declaration};
@@ -155,16 +155,42 @@ fn refused_in(
 fn refusal_of(ty: FunctionType, unplanned: Unplanned) -> Result<Option<Refusal>, AllocError>
     ensures { IfOk result (IsFoundOf ty unplanned) }
 {
+    let found = found_of(ty, &unplanned);
     match unplanned {
-        Unplanned::Refused(construct, part) => {
-            let position = position_at(ty, part);
-            Ok(Some(Refusal {
-                construct,
-                position,
-            }))
-        }
+        Unplanned::Refused(_, _) => Ok(found),
         Unplanned::Memory(error) => Err(error),
     }
+}
+
+/// The refusal of a function without a plan; none where memory has run out.
+pub(crate) fn found_of(ty: FunctionType, unplanned: &Unplanned) -> Option<Refusal>
+    ensures { result ≡ found_of ty unplanned.now }
+{
+    match unplanned {
+        Unplanned::Refused(construct, part) => {
+            let position = position_at(ty, *part);
+            Some(Refusal {
+                construct: *construct,
+                position,
+            })
+        }
+        Unplanned::Memory(_) => None,
+    }
+}
+
+/// The refusal of items without names; none where memory has run out.
+pub(crate) fn found_of_names(error: &NamerError) -> Option<Refusal>
+    ensures { result ≡ found_of_names error.now }
+{
+    let construct = match error {
+        NamerError::Full => Construct::FullNamer,
+        NamerError::KeyFull => Construct::NameKey,
+        NamerError::Memory(_) => return None,
+    };
+    Some(Refusal {
+        construct,
+        position: RefusalPosition::Labels,
+    })
 }
 
 /// The position of this part of a function or an entry point.

@@ -1,6 +1,6 @@
 //! The writer of modules.
 
-ghost use Rattle.std.specs.Prelude.{◌≡◌, [], IfErr, IfOk, IsTrue, OnOk};
+ghost use Rattle.std.specs.Prelude.{◌≡◌, [], IfErr, IfOk, IsErrAnd, IsFalse, IsTrue, OnOk};
 ghost use Rattle.std.specs.Prelude.{string_bytes};
 ghost use Rattle.module_semantics.specs.acceptance.Accepted.{is_accepted};
 ghost use Rattle.module_semantics.specs.FunctionNumbers.{IsFunctionOf};
@@ -19,13 +19,15 @@ ghost use Rattle.naga_refusals.specs.Errors.{TellsOfModule};
 ghost use Rattle.naga_wgsl_out.specs.Items.{CanWriteModule};
 ghost use Rattle.naga_wgsl_out.specs.ModuleRefusals.{HasAllNames, HasNamedBefore};
 ghost use Rattle.naga_wgsl_out.specs.ModuleRefusals.{IsNamesRefusal};
-ghost use Rattle.naga_wgsl_out.specs.Unwritable.{TellsFirst, TellsRefusalOf};
+ghost use Rattle.naga_wgsl_out.specs.Unwritable.{IsFoundOfNames, TellsBeside, TellsFirst, TellsFound};
+ghost use Rattle.naga_wgsl_out.specs.Unwritable.{TellsRefusalOf};
 ghost use Rattle.naga_wgsl_out.specs.Writing.{WritesFunctions, WritesNext, Writing};
 ghost use Rattle.naga_wgsl_out.specs.Writing.{AppendsItsText, front_text, spaced_function_at, line_after};
 ghost use Rattle.naga_wgsl_out.specs.Writing.{written_text};
 
 use crate::declarations::write_declarations;
 use crate::enables::write_enables;
+use crate::unwritable::{Refusal, found_of, found_of_names};
 use naga_back::{FunctionType, WriterFlags};
 use naga_info::ModuleInfo;
 use naga_ir::{ItemIndex, Module};
@@ -35,9 +37,9 @@ use naga_names::keywords::RESERVED_PREFIXES;
 use naga_names::namer::{NameKey, Namer, NamerError};
 use naga_refusals::Error;
 use naga_refusals::error::names_error;
-use naga_scope::{KnownModule, Plan};
+use naga_scope::{KnownModule, Plan, RefusalPosition};
 use naga_tables::{ModuleTables, unsupported_declaration};
-use naga_wgsl_fns::{plan_of, write_planned};
+use naga_wgsl_fns::{plan_or_refusal, unplanned_error, write_planned};
 use naga_wgsl_shared::put;
 use naga_words::TextSink;
 use std::alloc::Global;
@@ -132,11 +134,86 @@ impl<W: TextSink> Writer<W> {
             (W.failures self.old.sink) (W.failures self.new.sink) }
         ensures flags { self.new.flags ≡ self.old.flags }
     {
+        let mut found = None;
+        self.write_finding(module, info, &mut found)
+    }
+
+    /// Writes as [`Writer::write`] does, in the same time, and tells beside the answer what the module
+    /// is refused for and where that stands, as [`unwritable`] would find it: just where the answer is
+    /// an error that tells of the module. Where memory is wanting for the text of an error, that is the
+    /// answer.
+    ///
+    /// ```text
+    /// let (answer, refusal) = writer.write_with_refusal(&shader.module, &shader.info);
+    /// if let Some(refusal) = refusal {
+    ///     println!(rt; "refused: {}", refusal.construct)?;
+    /// }
+    /// ```
+    ///
+    /// [`unwritable`]: crate::wgsl::unwritable
+    pub fn write_with_refusal(
+        &mut self,
+        module: &Module,
+        info: &ModuleInfo,
+    ) -> (Result<(), Error>, Option<Refusal>)
+        requires accepted { IsTrue (is_accepted «module».now info.now) }
+        ensures faithful { FaithfulWriting self.old.flags «module».now info.now
+            result.0
+            (W.text self.old.sink) (W.text self.new.sink)
+            (W.failures self.old.sink) (W.failures self.new.sink) }
+        ensures matches { OnOk result.0 (EachReading (W.text self.old.sink) (W.text self.new.sink)
+            (MatchesModule (annotates_types self.old.flags) «module».now info.now)) }
+        ensures text { AppendsItsText «module».now info.now self.old.flags result.0
+            (W.text self.old.sink) (W.text self.new.sink) }
+        ensures leaves { Leaves self.old.flags «module».now info.now result.0
+            (W.text self.old.sink) (W.text self.new.sink)
+            (W.failures self.old.sink) (W.failures self.new.sink) }
+        ensures flags { self.new.flags ≡ self.old.flags }
+        ensures beside { TellsBeside (annotates_types self.old.flags) «module».now info.now
+            result.0 result.1 }
+    {
+        let mut found = None;
+        let answer = self.write_finding(module, info, &mut found);
+        if tells_of_module(&answer) {
+            (answer, found)
+        } else {
+            (answer, None)
+        }
+    }
+
+    /// What [`Writer::write`] does. What the module is refused for is found where the answer tells of
+    /// the module.
+    fn write_finding(
+        &mut self,
+        module: &Module,
+        info: &ModuleInfo,
+        found: &mut Option<Refusal>,
+    ) -> Result<(), Error>
+        requires accepted { IsTrue (is_accepted «module».now info.now) }
+        ensures faithful { FaithfulWriting self.old.flags «module».now info.now
+            result
+            (W.text self.old.sink) (W.text self.new.sink)
+            (W.failures self.old.sink) (W.failures self.new.sink) }
+        ensures matches { OnOk result (EachReading (W.text self.old.sink) (W.text self.new.sink)
+            (MatchesModule (annotates_types self.old.flags) «module».now info.now)) }
+        ensures text { AppendsItsText «module».now info.now self.old.flags result
+            (W.text self.old.sink) (W.text self.new.sink) }
+        ensures leaves { Leaves self.old.flags «module».now info.now result
+            (W.text self.old.sink) (W.text self.new.sink)
+            (W.failures self.old.sink) (W.failures self.new.sink) }
+        ensures flags { self.new.flags ≡ self.old.flags }
+        ensures found { IfErr result (λ e. TellsOfModule e →
+            TellsFound (annotates_types self.old.flags) «module».now info.now found.new e) }
+    {
         let tables = ModuleTables::of(self.alloc, module)?;
-        if let Some((_, construct)) = unsupported_declaration(module, &tables) {
+        if let Some((position, construct)) = unsupported_declaration(module, &tables) {
+            *found = Some(Refusal {
+                construct,
+                position: RefusalPosition::Declaration(position),
+            });
             return Err(construct.to_error(self.alloc));
         }
-        let (names, mut namer) = names_of(self.alloc, module)?;
+        let (names, mut namer) = names_finding(self.alloc, module, found)?;
         let known = KnownModule {
             alloc: self.alloc,
             shader: module,
@@ -146,7 +223,18 @@ impl<W: TextSink> Writer<W> {
             flags: self.flags,
         };
         write_front(&known, &mut self.out)?;
-        write_functions(&known, &mut namer, &mut self.out)
+        write_functions(&known, &mut namer, &mut self.out, found)
+    }
+}
+
+/// Whether it is an error that tells of the module, and no want of memory or of the sink.
+fn tells_of_module(answer: &Result<(), Error>) -> bool
+    ensures tells { IsTrue result → IsErrAnd answer.now TellsOfModule }
+    ensures other { IsFalse result → IfErr answer.now (λ e. TellsOfModule e → ⊥) }
+{
+    match answer {
+        Ok(()) | Err(Error::Memory(_) | Error::FmtError(_)) => false,
+        Err(_) => true,
     }
 }
 
@@ -169,31 +257,34 @@ fn write_functions<W: TextSink>(
     known: &KnownModule<'_>,
     namer: &mut Namer,
     out: &mut W,
+    found: &mut Option<Refusal>,
 ) -> Result<(), Error>
     requires can { CanWriteModule known.now }
     requires namer { HasNamedBefore known.now.shader.now 0 namer.old }
     ensures wrote { WritesFunctions known.now.shader.now known.now.info.now known.now.flags result
         (W.text out.old) (W.failures out.old) (W.text out.new) (W.failures out.new) }
-    ensures told { IfErr result (λ e. TellsOfModule e →
-        TellsFirst (explicit_in known.now) known.now.shader.now known.now.info.now e) }
+    ensures told { IfErr result (λ e. TellsOfModule e → TellsFound (explicit_in known.now)
+        known.now.shader.now known.now.info.now found.new e) }
 {
     for index in 0..known.shader.functions.len() {
         let ty = FunctionType::Function(ItemIndex::from_index(index));
-        write_next(known, &ty, namer, out)?;
+        write_next(known, &ty, namer, out, found)?;
     }
     for index in 0..known.shader.entry_points.len() {
         let ty = FunctionType::EntryPoint(index as u16);
-        write_next(known, &ty, namer, out)?;
+        write_next(known, &ty, namer, out, found)?;
     }
     Ok(())
 }
 
-/// Writes the next function, or the next entry point, if there is a plan of it.
+/// Writes the next function, or the next entry point, if there is a plan of it; else what it is refused
+/// for is found.
 fn write_next<W: TextSink>(
     known: &KnownModule<'_>,
     ty: &FunctionType,
     namer: &mut Namer,
     out: &mut W,
+    found: &mut Option<Refusal>,
 ) -> Result<(), Error>
     requires can { CanWriteModule known.now }
     requires there { IsFunctionOf ty.now known.now.shader.now }
@@ -202,10 +293,16 @@ fn write_next<W: TextSink>(
         (number_in known.now ty.now) namer.new result (W.text out.old) (W.failures out.old)
         (W.text out.new) (W.failures out.new) }
     ensures told { IfErr result (λ e. TellsOfModule e →
-        TellsRefusalOf (explicit_in known.now) known.now.shader.now known.now.info.now ty.now e) }
+        TellsRefusalOf (explicit_in known.now) known.now.shader.now known.now.info.now ty.now
+        found.new e) }
 {
-    let plan = plan_of(known, ty, namer)?;
-    write_with_line(known, ty, plan, out)
+    match plan_or_refusal(known, ty, namer) {
+        Ok(plan) => write_with_line(known, ty, plan, out),
+        Err(unplanned) => {
+            *found = found_of(*ty, &unplanned);
+            Err(unplanned_error(known.alloc, unplanned))
+        }
+    }
 }
 
 /// A function or an entry point by its plan, with its empty line.
@@ -265,6 +362,27 @@ pub fn names_of(alloc: Global, module: &Module) -> Result<(HashMap<NameKey, Stri
     match items_named(alloc, module) {
         Ok(named) => Ok(named),
         Err(error) => Err(names_error(alloc, error)),
+    }
+}
+
+/// The names of a module's items, and the namer that gave them, as [`names_of`] gives them; else what
+/// the module is refused for is found.
+fn names_finding(
+    alloc: Global,
+    module: &Module,
+    found: &mut Option<Refusal>,
+) -> Result<(HashMap<NameKey, String>, Namer), Error>
+    ensures ok { IfOk result (λ r. HasAllNames «module».now (names_in r.0)) }
+    ensures namer { IfOk result (λ r. HasNamedBefore «module».now 0 r.1) }
+    ensures err { IfErr result (IsNamesRefusal «module».now) }
+    ensures found { IfErr result (IsFoundOfNames «module».now found.new) }
+{
+    match items_named(alloc, module) {
+        Ok(named) => Ok(named),
+        Err(error) => {
+            *found = found_of_names(&error);
+            Err(names_error(alloc, error))
+        }
     }
 }
 

@@ -10,7 +10,7 @@ use module_positions::{JsonHolder, JsonRefusalPosition, labelled_position, role_
 use naga_json::{Known, ReadError, known_of, module_of, parse};
 use naga_wgsl_out::info::{InferenceError, Unaccepted, count, explain, infer, unaccepted};
 use naga_wgsl_out::ir::Module;
-use naga_wgsl_out::wgsl::{Writer, WriterFlags, unwritable};
+use naga_wgsl_out::wgsl::{Refusal, Writer, WriterFlags, unwritable};
 use std::alloc::{AllocError, Global};
 use std::io;
 use std::io::Write;
@@ -191,29 +191,33 @@ fn text_of(
     requires { IsTrue (is_accepted known.now.module known.now.info) }
 {
     let mut writer = Writer::new(alloc, String::new(alloc), flags);
-    let written = writer.write(&known.module, &known.info);
+    let (written, refusal) = writer.write_with_refusal(&known.module, &known.info);
     let mut text = writer.finish();
     if let Err(error) = written {
         let refusal = format!(in alloc; "refused: {error}\n")?;
         text.push_str(refusal.as_str())?;
     }
     if positions {
-        push_position(alloc, known, flags, &mut text)?;
+        push_position(alloc, known, flags, refusal, &mut text)?;
     }
     Ok(text)
 }
 
 /// Tells where what the module is refused for stands, if there is such a thing, and why an operand
-/// there has no value.
+/// there has no value. A search for it without the text is to find the same.
 fn push_position(
     alloc: Global,
     known: &Known,
     flags: WriterFlags,
+    refusal: Option<Refusal>,
     text: &mut String,
 ) -> Result<(), AllocError>
     requires { IsTrue (is_accepted known.now.module known.now.info) }
 {
-    if let Some(refusal) = unwritable(alloc, &known.module, &known.info, flags)? {
+    if unwritable(alloc, &known.module, &known.info, flags)? != refusal {
+        text.push_str("at: otherwise where it is looked for alone\n")?;
+    }
+    if let Some(refusal) = refusal {
         let role = role_at(&known.module, &refusal.position);
         let position = JsonRefusalPosition {
             holder: JsonHolder::Member,

@@ -31,7 +31,7 @@ use Rattle.naga_json.specs.Said.{Gives, IsRefusal as IsReadRefusal}
 use Rattle.naga_json.specs.declared.error.ReadError.{ReadError}
 use Rattle.naga_json.specs.declared.modules.Given.{Given}
 use Rattle.module_answers.specs.Wants.{IsDecimalUnlessWanting, UnlessWanting}
-use Rattle.module_answers.specs.WriteOutcomes.{TellsBeside}
+use Rattle.naga_wgsl_out.specs.Unwritable.{TellsBeside}
 use Rattle.module_answers.specs.declared.shaders.Unasked.{Unasked}
 use Rattle.module_answers.specs.declared.shaders.Unasked.TheVariants as unasked
 use Rattle.module_positions.specs.declared.positions.JsonHolder.{JsonHolder}

@@ -21,7 +21,7 @@ use Rattle.module_answers.specs.Opening.{OpensWithNames, TellsRuleAt, opening}
 use Rattle.module_answers.specs.Refusals.{TellsRefusalAt}
 use Rattle.module_answers.specs.Shaders.{IsInfoOf, TellsUntypedAt, holder_of}
 use Rattle.module_answers.specs.Shaders as shaders
-use Rattle.module_answers.specs.WriteOutcomes.{TellsRefusal}
+use Rattle.naga_wgsl_out.specs.Unwritable.{TellsRefusal}
 use Rattle.module_answers.specs.declared.shaders.Unasked.{Unasked}
 use Rattle.module_answers.specs.declared.shaders.Unasked.TheVariants as unasked
 use Rattle.naga_inference.specs.declared.errors.Untyped.{Untyped}

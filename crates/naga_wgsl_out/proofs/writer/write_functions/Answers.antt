@@ -5,7 +5,7 @@ use Rattle.naga_wgsl_out.proofs.Functions.{failed_as, last_entry_point, entry_po
 use Rattle.naga_wgsl_out.proofs.Functions.{up_to_as, up_to_failed, up_to_more, up_to_none, wrote_as}
 use Rattle.naga_scope.specs.KnownModules.{explicit_in}
 use Rattle.naga_wgsl_out.proofs.Positions.{as_told, told_first, up_to_before}
-use Rattle.naga_wgsl_out.specs.Unwritable.{AreWritableBefore, TellsFirst}
+use Rattle.naga_wgsl_out.specs.Unwritable.{AreWritableBefore, TellsFound}
 use Rattle.naga_wgsl_out.proofs.writer.write_functions.Goals as goal
 
 pub loop-index-init : goal.loop-index-init
@@ -107,8 +107,8 @@ returns-in_err-write_next-clause-told g c =
     let info = k.info.now in
     let ty = item.Function c.from_index.result in
     let before = up_to_before m info k.flags c.requires.can.declared c.requires.can.names c.loop-index.invariant in
-    as_told (λ error. TellsFirst e m info error) c.from_residual.result _ c.from_residual.ensures.1
-    (λ of. told_first e m info ty _
+    as_told (λ error. TellsFound e m info c.write_next.new.found error) c.from_residual.result _ c.from_residual.ensures.1
+    (λ of. told_first e m info ty c.write_next.new.found _
     (omega (arith, c.loop-index-test.true, c.len-index-end.ensures, c.from_index.ensures))
     (subst (AreWritableBefore e m info) (sym c.from_index.ensures) before)
     (c.in_err-write_next.ensures.told of))
@@ -125,7 +125,7 @@ returns-in_err-write_next-2-clause-told g c =
     up_to_before m info k.flags c.requires.can.declared c.requires.can.names
     (c.loop-index-2.invariant (g.W.TextSink.text c.args.out.now) (g.W.TextSink.failures c.args.out.now)
     (up_to_as all c.loop-index.invariant)) in
-    as_told (λ error. TellsFirst e m info error) c.from_residual-in_err-write_next-2.result _
+    as_told (λ error. TellsFound e m info c.write_next-2.new.found error) c.from_residual-in_err-write_next-2.result _
     c.from_residual-in_err-write_next-2.ensures.1
-    (λ of. told_first e m info (item.EntryPoint c.loop-index-2.index) _ tt before
+    (λ of. told_first e m info (item.EntryPoint c.loop-index-2.index) c.write_next-2.new.found _ tt before
     (c.in_err-write_next-2.ensures.told of))

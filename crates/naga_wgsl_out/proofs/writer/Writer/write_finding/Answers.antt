@@ -1,13 +1,16 @@
-use Rattle.std.proofs.Common.{Err, ap, refl, subst}
+use Rattle.std.proofs.Common.{Err, IfErr, ap, refl, subst}
+use Rattle.naga_back.specs.Flags.{annotates_types}
+use Rattle.naga_refusals.specs.Errors.{TellsOfModule}
 use Rattle.naga_tables.proofs.FilledTables.{items_in_order}
 use Rattle.naga_wgsl_out.proofs.Faithful.{Concludes, concludes, concludes_in_front}
 use Rattle.naga_wgsl_out.proofs.Faithful.{leaves_untouched, refused}
 use Rattle.naga_wgsl_out.proofs.ItemRows.{can_write_module}
 use Rattle.naga_wgsl_out.proofs.ModuleScopes.{declaration_refuses, declaration_tells_of_none}
-use Rattle.naga_wgsl_out.proofs.Positions.{labels_told}
+use Rattle.naga_wgsl_out.proofs.Positions.{as_told, found_first, labels_found, stopped_told}
 use Rattle.naga_wgsl_out.proofs.ReportedNames.{tells_of_none}
 use Rattle.naga_scope.specs.declared.positions.RefusalPosition.TheVariants as position
-use Rattle.naga_wgsl_out.proofs.writer.Writer.write.Goals as goal
+use Rattle.naga_wgsl_out.specs.Unwritable.{TellsFound}
+use Rattle.naga_wgsl_out.proofs.writer.Writer.write_finding.Goals as goal
 
 pub returns : goal.returns
 returns g c =
@@ -19,9 +22,10 @@ returns g c =
     let now = g.W.TextSink.text c.write_functions.new.out in
     let after = g.W.TextSink.failures c.write_functions.new.out in
     let names = c.in_ok-names.ensures.ok in
+    let told = c.write_functions.ensures.told in
     let end = concludes m info c.self.inside.flags accepted declarations _ names
     _ now _ after _ _ c.in_ok-write_front.ensures r c.write_functions.ensures.wrote
-    c.write_functions.ensures.told in
+    (found_first _ m info c.write_functions.new.found r told) in
     let ends = subst
     (λ w. Concludes m info w.flags accepted declarations _ names r
     (g.W.TextSink.text w.sink) now (g.W.TextSink.failures w.sink) after)
@@ -32,6 +36,9 @@ returns g c =
       text = ends.text;
       leaves = ends.leaves;
       flags = ap (λ w. w.flags) c.self.view_is;
+      found = subst
+          (λ w. IfErr r (λ e. TellsOfModule e →
+          TellsFound (annotates_types w.flags) m info c.write_functions.new.found e)) c.self.view_is told;
     }
 
 pub returns-in_err-write_front : goal.returns-in_err-write_front
@@ -56,6 +63,8 @@ returns-in_err-write_front g c =
       text = ends.text;
       leaves = ends.leaves;
       flags = ap (λ w. w.flags) c.self.view_is;
+      found = stopped_told (TellsFound _ m info _) r _ c.from_residual-in_err-write_front.ensures.1
+          c.in_err-write_front.ensures;
     }
 
 pub write_front-requires : goal.write_front-requires
@@ -87,6 +96,17 @@ returns-in-Some-clause-faithful g c =
     (declaration_refuses _ c.args.«module».now c.args.info.now _ _ c.to_error.result
     (c.in-Some.construct, c.in-Some.ensures.some, c.to_error.ensures))
 
+pub returns-in-Some-clause-found : goal.returns-in-Some-clause-found
+returns-in-Some-clause-found g c = λ of. (
+  record {
+    refusal = record { construct = c.in-Some.construct; position = position.Declaration _ };
+    stands = c.in-Some.ensures.stands;
+    first = c.in-Some.ensures.first;
+    told = c.to_error.ensures;
+  },
+  refl,
+)
+
 pub returns-in-Some-clause-leaves : goal.returns-in-Some-clause-leaves
 returns-in-Some-clause-leaves g c =
     let m = c.args.«module».now in
@@ -94,12 +114,7 @@ returns-in-Some-clause-leaves g c =
     let found = c.in-Some.ensures in
     leaves_untouched _ m c.args.info.now _ _ (Err error) error refl
     (declaration_tells_of_none m error (c.in-Some.construct, found.some, c.to_error.ensures))
-    (λ of. record {
-      refusal = record { construct = c.in-Some.construct; position = position.Declaration _ };
-      stands = found.stands;
-      first = found.first;
-      told = c.to_error.ensures;
-    })
+    (λ of. (returns-in-Some-clause-found g c of).0)
 
 pub returns-in_err-names-clause-leaves : goal.returns-in_err-names-clause-leaves
 returns-in_err-names-clause-leaves g c =
@@ -107,4 +122,15 @@ returns-in_err-names-clause-leaves g c =
     let refusal = c.in_err-names.ensures.err in
     leaves_untouched _ m c.args.info.now _ _ c.from_residual-in_err-names.result _
     c.from_residual-in_err-names.ensures.1 (tells_of_none m _ refusal)
-    (labels_told _ m c.args.info.now _ c.in_default.ensures.none refusal)
+    (λ of. (labels_found _ m c.args.info.now _ _ c.in_default.ensures.none c.in_err-names.ensures.found of).0)
+
+pub returns-in_err-names-clause-found : goal.returns-in_err-names-clause-found
+returns-in_err-names-clause-found g c =
+    as_told (TellsFound _ c.args.«module».now c.args.info.now _) c.from_residual-in_err-names.result _
+    c.from_residual-in_err-names.ensures.1
+    (labels_found _ c.args.«module».now c.args.info.now _ _ c.in_default.ensures.none c.in_err-names.ensures.found)
+
+pub returns-in_err-tables-clause-found : goal.returns-in_err-tables-clause-found
+returns-in_err-tables-clause-found g c =
+    as_told (TellsFound _ c.args.«module».now c.args.info.now _) c.from_residual.result _
+    c.from_residual.ensures.1 (λ of. absurd of)
