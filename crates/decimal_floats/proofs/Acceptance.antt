@@ -10,22 +10,14 @@ use Rattle.std.specs.List.{AllZip, enumerate_from, flat_map, list_all}
 use Rattle.std.specs.Option.{is_some, option_and_then, option_map, option_map_or, option_to_list}
 use Rattle.std.proofs.lemmas.Slice.Zip.{AllZip-long}
 use Rattle.indexmap.specs.IndexMap.{keys}
-use Rattle.naga_ir.specs.Operands.{expression_operands}
-use Rattle.naga_ir.specs.StatementTree.{SimpleStatement, atomic, call, return}
-use Rattle.naga_ir.specs.StatementTree.{work_group_uniform_load, subgroup_ballot, subgroup_gather}
-use Rattle.naga_ir.specs.StatementTree.{subgroup_collective_operation, StatementTree, simple, block}
-use Rattle.naga_ir.specs.StatementTree.{branch, switch, loop, BlockTree, no_statements, statement}
-use Rattle.naga_ir.specs.StatementTree.{CaseTrees, no_cases, case}
-use Rattle.naga_ir.specs.declared.expression.Expression.{Expression}
+use Rattle.module_semantics.specs.IR.{BlockTree, CaseTrees, EntryPoint, Expression, ExpressionInfo, Function, Module}
+use Rattle.module_semantics.specs.IR.{ModuleInfo, SimpleStatement, StatementTree, TypeResolution, atomic, block}
+use Rattle.module_semantics.specs.IR.{branch, call, case, expression_operands, loop, no_cases, no_statements, return}
+use Rattle.module_semantics.specs.IR.{simple, statement, subgroup_ballot, subgroup_collective_operation}
+use Rattle.module_semantics.specs.IR.{subgroup_gather, switch, work_group_uniform_load}
 use Rattle.naga_ir.specs.declared.expression.Expression.TheVariants as expression
 use Rattle.naga_ir.specs.declared.expression.Literal as ir
-use Rattle.naga_ir.specs.declared.module.EntryPoint.{EntryPoint}
-use Rattle.naga_ir.specs.declared.module.Function.{Function}
-use Rattle.naga_ir.specs.declared.module.Module.{Module}
 use Rattle.naga_ir.specs.declared.types.TypeInner.TheVariants as inner
-use Rattle.naga_info.specs.declared.info.ExpressionInfo.{ExpressionInfo}
-use Rattle.naga_info.specs.declared.info.ModuleInfo.{ModuleInfo}
-use Rattle.naga_info.specs.declared.info.TypeResolution.{TypeResolution}
 use Rattle.naga_info.specs.declared.info.TypeResolution.TheVariants as type_of
 use Rattle.module_semantics.specs.acceptance.Accepted.{is_accepted}
 use Rattle.module_semantics.specs.acceptance.AgreeingOperators.{expression_use, further_groups_of}

@@ -6,11 +6,9 @@ use Rattle.std.specs.Prelude.{Some, slice_get}
 use Rattle.std.proofs.lemmas.Option.{get_or_from_slice_get, slice_get_within}
 use Rattle.std.specs.List.{AllZip}
 use Rattle.std.proofs.lemmas.Slice.Zip.{AllZip-long}
-use Rattle.naga_ir.specs.declared.expression.Expression.{Expression}
+use Rattle.module_semantics.specs.IR.{EntryPoint, Expression, Function}
 use Rattle.naga_ir.specs.declared.expression.Expression.TheVariants as expression
 use Rattle.naga_ir.specs.declared.expression.Literal as ir
-use Rattle.naga_ir.specs.declared.module.EntryPoint.{EntryPoint}
-use Rattle.naga_ir.specs.declared.module.Function.{Function}
 use Rattle.decimal_floats.specs.Decimals.{IsDecimalEntryPoint, IsDecimalExpression, same, to_decimal}
 use Rattle.decimal_floats.specs.Decimals.{IsDecimalFunction, IsDecimalLiteral}
 use Rattle.decimal_floats.proofs.Literals.{decimal_again}

@@ -5,13 +5,10 @@
 -- was before, and the second as it is afterwards.
 use Rattle.std.specs.Prelude.{◌≡◌, ◌⊎◌, ◌%◌, ◌^◌, Bool, true, IsTrue, nat_le}
 use Rattle.std.specs.List.{AllZip, list_all}
-use Rattle.naga_ir.specs.declared.expression.Expression.{Expression}
+use Rattle.module_semantics.specs.IR.{EntryPoint, Expression, Function, Module}
 use Rattle.naga_ir.specs.declared.expression.Expression.TheVariants as expression
 use Rattle.naga_ir.specs.declared.expression.Literal as ir
 use Rattle.naga_ir.specs.declared.expression.Literal.TheVariants as literal
-use Rattle.naga_ir.specs.declared.module.EntryPoint.{EntryPoint}
-use Rattle.naga_ir.specs.declared.module.Function.{Function}
-use Rattle.naga_ir.specs.declared.module.Module.{Module}
 use Rattle.module_semantics.specs.Literals.{literal_is_within, with_bits}
 
 -- a literal is as it was, or its bits are those of a numeral that it has now, which is in range and

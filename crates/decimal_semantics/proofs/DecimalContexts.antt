@@ -5,11 +5,7 @@
 use Rattle.std.proofs.Common.{◌≡◌, ℕ, zero, suc, refl, ap, ◌∙◌}
 use Rattle.std.specs.Prelude.{None, Some, if◌then◌else◌, slice_get, unwrap_or}
 use Rattle.std.specs.Option.{is_some, option_and_then, option_map, option_map_or}
-use Rattle.naga_ir.specs.declared.module.Constant.{Constant}
-use Rattle.naga_ir.specs.declared.module.Module.{Module}
-use Rattle.naga_info.specs.Resolution.{inner_of}
-use Rattle.naga_info.specs.declared.info.ModuleInfo.{ModuleInfo}
-use Rattle.naga_info.specs.declared.info.TypeResolution.TheVariants.{Handle}
+use Rattle.module_semantics.specs.IR.{Constant, Handle, Module, ModuleInfo, inner_of}
 use Rattle.naga_naming.specs.declared.key.NameKey.TheVariants as key
 use Rattle.naga_spelling.specs.Contexts.{names_of}
 use Rattle.module_semantics.specs.ExpressionContexts.{constant_number, constant_over, declared}

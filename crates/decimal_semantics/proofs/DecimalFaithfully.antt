@@ -4,9 +4,8 @@
 -- shapes.
 use Rattle.std.proofs.Common.{◌≡◌, ℕ, List, ap, subst, ◌∙◌}
 use Rattle.std.specs.Prelude.{IsTrue, Some}
-use Rattle.naga_ir.specs.declared.module.Module.{Module}
+use Rattle.module_semantics.specs.IR.{Module, ModuleInfo}
 use Rattle.naga_back.specs.declared.flags.WriterFlags.{WriterFlags}
-use Rattle.naga_info.specs.declared.info.ModuleInfo.{ModuleInfo}
 use Rattle.naga_naming.specs.Keys.{NameMap}
 use Rattle.naga_naming.specs.declared.key.NameKey.TheVariants as key
 use Rattle.wgsl_layout.specs.declared.layouts.Placed.{Placed}

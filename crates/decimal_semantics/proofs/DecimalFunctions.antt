@@ -3,9 +3,7 @@
 -- Throughout, f and g are functions, and p and q entry points, as they were before and afterwards.
 use Rattle.std.proofs.Common.{◌≡◌, List, [], ◌∷◌, ap, ◌∙◌, map}
 use Rattle.std.specs.List.{AllZip}
-use Rattle.naga_ir.specs.declared.module.EntryPoint.{EntryPoint}
-use Rattle.naga_ir.specs.declared.module.Function.{Function}
-use Rattle.naga_ir.specs.declared.module.Module.{Module}
+use Rattle.module_semantics.specs.IR.{EntryPoint, Function, Module}
 use Rattle.module_semantics.specs.FunctionNumbers.{all_functions}
 use Rattle.decimal_floats.specs.Decimals.{IsDecimalEntryPoint, IsDecimalFunction, IsDecimalModule}
 use Rattle.decimal_semantics.proofs.SideBySide.{AllZip-append}

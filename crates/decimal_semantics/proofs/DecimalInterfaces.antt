@@ -8,16 +8,13 @@ use Rattle.std.specs.Prelude.{Option, if◌then◌else◌, slice_get}
 use Rattle.std.specs.List.{AllZip, enumerate_from, filter, filter_map, list_any}
 use Rattle.std.specs.Option.{option_and_then, option_map_or}
 use Rattle.std.proofs.lemmas.Slice.Zip.{AllZip-long}
-use Rattle.naga_ir.specs.declared.module.EntryPoint.{EntryPoint}
+use Rattle.module_semantics.specs.IR.{EntryPoint, ExpressionInfo, ModuleInfo, Type_}
 use Rattle.naga_ir.specs.declared.module.Function as ir_function
 use Rattle.naga_ir.specs.declared.module.Module as ir_module
-use Rattle.naga_ir.specs.declared.types.Type_.{Type_}
 use Rattle.naga_back.specs.Flags.{is_portable}
 use Rattle.naga_back.specs.FunctionContext.{function_key}
 use Rattle.naga_back.specs.declared.context.FunctionType.TheVariants as item
 use Rattle.naga_back.specs.declared.flags.WriterFlags.{WriterFlags}
-use Rattle.naga_info.specs.declared.info.ExpressionInfo.{ExpressionInfo}
-use Rattle.naga_info.specs.declared.info.ModuleInfo.{ModuleInfo}
 use Rattle.naga_naming.specs.Keys.{NameMap}
 use Rattle.naga_spelling.specs.Contexts.{names_of, Names as TypeNames}
 use Rattle.shader_runs.specs.Constants.{module_initialiser_value}

@@ -7,8 +7,7 @@ use Rattle.std.specs.Prelude.{None, codes, if◌then◌else◌, unwrap_or}
 use Rattle.std.specs.List.{AllZip, enumerate_from, flat_map}
 use Rattle.std.specs.Map.{lookup, update_all}
 use Rattle.std.specs.Option.{option_or}
-use Rattle.naga_ir.specs.declared.module.EntryPoint.{EntryPoint}
-use Rattle.naga_ir.specs.declared.module.Module.{Module}
+use Rattle.module_semantics.specs.IR.{EntryPoint, Module}
 use Rattle.naga_naming.specs.Keys.{same_key}
 use Rattle.naga_naming.specs.Naming.{label_or, Names}
 use Rattle.naga_naming.specs.Reset.{is_struct, labelled_declarations, labelled_entry_point}

@@ -6,15 +6,9 @@ use Rattle.std.proofs.Common.{◌≡◌, ℕ, List, [], ◌∷◌, ◌++◌, map
 use Rattle.std.specs.Prelude.{None, Some, if◌then◌else◌, slice_get, unwrap_or}
 use Rattle.std.specs.List.{AllZip, enumerate_from, find, flat_map, zip}
 use Rattle.std.specs.Option.{option_map_or}
-use Rattle.naga_ir.specs.declared.module.Function.{Function}
-use Rattle.naga_ir.specs.declared.module.Module.{Module}
-use Rattle.naga_ir.specs.declared.types.AddressSpace.{AddressSpace}
-use Rattle.naga_ir.specs.declared.types.TypeInner.{TypeInner}
+use Rattle.module_semantics.specs.IR.{AddressSpace, ExpressionInfo, Function, Module, ModuleInfo, TypeInner, Value}
+use Rattle.module_semantics.specs.IR.{inner_of}
 use Rattle.naga_ir.specs.declared.types.TypeInner.TheVariants as inner
-use Rattle.naga_info.specs.Resolution.{inner_of}
-use Rattle.naga_info.specs.declared.info.ExpressionInfo.{ExpressionInfo}
-use Rattle.naga_info.specs.declared.info.ModuleInfo.{ModuleInfo}
-use Rattle.naga_info.specs.declared.info.TypeResolution.TheVariants.{Value}
 use Rattle.naga_naming.specs.declared.key.NameKey.TheVariants as key
 use Rattle.module_semantics.specs.acceptance.AgreeingOperators.{function_groups, further_groups_of}
 use Rattle.module_semantics.specs.acceptance.AgreeingOperators.{Group, groups_of}

@@ -4,8 +4,7 @@
 use Rattle.std.proofs.Common.{◌≡◌, ◌≢◌, ◌+◌, ◌++◌, ◌∙◌, ℕ, List, length, codes, inl, inr, ap, arith}
 use Rattle.std.proofs.lemmas.List.{length-append}
 use Rattle.std.specs.Prelude.{Result, Ok, Err, IfOk}
-use Rattle.naga_ir.specs.declared.module.Module.{Module}
-use Rattle.naga_info.specs.declared.info.TypeResolution.{TypeResolution}
+use Rattle.module_semantics.specs.IR.{Module, TypeResolution}
 use Rattle.fault_details.specs.Told.{TellsBoth, TypesAreToldApart}
 
 another_differs : (text other : List ℕ) → other ≡ codes "another " ++ text → text ≢ other

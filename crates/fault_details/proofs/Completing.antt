@@ -12,17 +12,8 @@ use Rattle.std.specs.Option.{option_map_or}
 use Rattle.std.proofs.lemmas.Bool.{and_parts, eqb-true, lt-ltb, ltb-true}
 use Rattle.std.proofs.lemmas.List.{length-map}
 use Rattle.std.proofs.lemmas.Option.{slice_get-map, slice_get_within}
-use Rattle.naga_ir.specs.Operands.{expression_operands}
-use Rattle.naga_ir.specs.declared.expression.Expression.{Expression}
-use Rattle.naga_ir.specs.declared.module.EntryPoint.{EntryPoint}
-use Rattle.naga_ir.specs.declared.module.Module.{Module}
-use Rattle.naga_ir.specs.declared.types.Type_.{Type_}
-use Rattle.naga_ir.specs.declared.types.TypeInner.{TypeInner}
-use Rattle.naga_info.specs.Resolution.{inner_of}
-use Rattle.naga_info.specs.declared.info.ExpressionInfo.{ExpressionInfo}
-use Rattle.naga_info.specs.declared.info.ModuleInfo.{ModuleInfo}
-use Rattle.naga_info.specs.declared.info.TypeResolution.{TypeResolution}
-use Rattle.naga_info.specs.declared.info.TypeResolution.TheVariants.{Handle, Value}
+use Rattle.module_semantics.specs.IR.{EntryPoint, Expression, ExpressionInfo, Handle, Module, ModuleInfo, TypeInner}
+use Rattle.module_semantics.specs.IR.{TypeResolution, Type_, Value, expression_operands, inner_of}
 use Rattle.module_semantics.specs.acceptance.ExpressionTypes.{has_its_type}
 use Rattle.module_semantics.specs.acceptance.OperandDemands.{operands_fit}
 use Rattle.module_semantics.specs.acceptance.InfoSizes.{all_known, all_paired, entry_point_size_fits}

@@ -1,10 +1,7 @@
 -- What a type names is there for the context of the module where it is one of so many.
 use Rattle.std.proofs.Common.{◌≡◌, ◌∙◌, ℕ, List, length, refl, slice_get, Some, sym}
-use Rattle.naga_ir.specs.declared.module.Override.{Override}
-use Rattle.naga_ir.specs.declared.types.Type_.{Type_}
-use Rattle.naga_ir.specs.declared.types.TypeInner.{TypeInner}
+use Rattle.module_semantics.specs.IR.{ArraySize, Override, TypeInner, Type_}
 use Rattle.naga_ir.specs.declared.types.TypeInner.TheVariants as inner
-use Rattle.naga_ir.specs.declared.types.ArraySize.{ArraySize}
 use Rattle.naga_ir.specs.declared.types.ArraySize.TheVariants as size
 use Rattle.naga_spelling.specs.Contexts.{global_context}
 use Rattle.naga_spelling.specs.Spelling.{IsInOrder, StandsAfter, knows_override, knows_size}

@@ -13,26 +13,14 @@ use Rattle.std.specs.Option.{option_map_or}
 use Rattle.std.proofs.lemmas.Bool.{and_parts, lt-ltb}
 use Rattle.std.proofs.lemmas.Option.{slice_get_within}
 use Rattle.std.proofs.Math.Bool.{and_assoc}
-use Rattle.naga_ir.specs.Operands.{expression_operands, simple_operands, simple_result}
-use Rattle.naga_ir.specs.StatementTree.{SimpleStatement, return, store, atomic}
-use Rattle.naga_ir.specs.StatementTree.{call, cooperative_store}
-use Rattle.naga_ir.specs.StatementTree.{StatementTree, simple, branch}
-use Rattle.naga_ir.specs.StatementTree.{switch, loop}
-use Rattle.naga_ir.specs.declared.expression.Expression.{Expression}
+use Rattle.module_semantics.specs.IR.{BinaryOperator, Expression, Function, Handle, Module, SimpleStatement}
+use Rattle.module_semantics.specs.IR.{StatementTree, SwizzleComponent, TypeInner, TypeResolution, Type_, VectorSize}
+use Rattle.module_semantics.specs.IR.{atomic, branch, call, cooperative_store, expression_operands, inner_of, loop}
+use Rattle.module_semantics.specs.IR.{return, simple, simple_operands, simple_result, store, switch}
 use Rattle.naga_ir.specs.declared.expression.Expression.TheVariants as expression
-use Rattle.naga_ir.specs.declared.module.Function.{Function}
-use Rattle.naga_ir.specs.declared.module.Module.{Module}
-use Rattle.naga_ir.specs.declared.operators.BinaryOperator.{BinaryOperator}
 use Rattle.naga_ir.specs.declared.operators.BinaryOperator.TheVariants as binary
-use Rattle.naga_ir.specs.declared.types.Type_.{Type_}
-use Rattle.naga_ir.specs.declared.types.TypeInner.{TypeInner}
 use Rattle.naga_ir.specs.declared.types.TypeInner.TheVariants as inner
-use Rattle.naga_ir.specs.declared.types.VectorSize.{VectorSize}
-use Rattle.naga_ir.specs.declared.expression.SwizzleComponent.{SwizzleComponent}
 use Rattle.module_semantics.specs.TypeIdentity.{component_count}
-use Rattle.naga_info.specs.Resolution.{inner_of}
-use Rattle.naga_info.specs.declared.info.TypeResolution.{TypeResolution}
-use Rattle.naga_info.specs.declared.info.TypeResolution.TheVariants.{Handle}
 use Rattle.module_semantics.specs.acceptance.ExpressionTypes.{ExpectedType, LikeThis, Anything}
 use Rattle.module_semantics.specs.acceptance.ExpressionTypes.{Nothing, argument_type, binary_type}
 use Rattle.module_semantics.specs.acceptance.ExpressionTypes.{has_its_type, if_any, is_bool}

@@ -6,11 +6,8 @@ use Rattle.std.proofs.lemmas.Bool.{ltb-false, ltb-true, leb-false}
 use Rattle.std.specs.List.{enumerate_from}
 use Rattle.std.specs.Prelude.{if◌then◌else◌}
 use Rattle.std.specs.Option.{IfSome, option_and_then, option_map, option_map_or, option_or}
-use Rattle.naga_ir.specs.declared.expression.Expression.{Expression}
-use Rattle.naga_ir.specs.declared.module.Module.{Module}
+use Rattle.module_semantics.specs.IR.{Expression, Module, ModuleInfo, TypeResolution}
 use Rattle.naga_ir.specs.declared.statement.SwitchValue.TheVariants as switch_value
-use Rattle.naga_info.specs.declared.info.ModuleInfo.{ModuleInfo}
-use Rattle.naga_info.specs.declared.info.TypeResolution.{TypeResolution}
 use Rattle.naga_acceptance.specs.Faults.{site_of}
 use Rattle.naga_acceptance.specs.FirstUses.{first_below, first_other, first_other_at}
 use Rattle.naga_acceptance.specs.FirstUses.{first_other_in, other_type, other_use, other_use_in}

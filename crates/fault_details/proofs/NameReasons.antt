@@ -10,21 +10,12 @@ use Rattle.std.specs.Prelude.{IsTrue}
 use Rattle.std.specs.List.{list_all}
 use Rattle.std.specs.Option.{option_map_or}
 use Rattle.std.proofs.Math.Bool.{and-true}
-use Rattle.naga_ir.specs.Operands.{expression_operands, simple_operands, simple_result}
-use Rattle.naga_ir.specs.StatementTree.{SimpleStatement, emit}
-use Rattle.naga_ir.specs.StatementTree.{StatementTree, block, branch, loop, simple, switch}
-use Rattle.naga_ir.specs.declared.expression.Expression.{Expression}
+use Rattle.module_semantics.specs.IR.{ArraySize, EntryPoint, Expression, Function, Module, ModuleInfo, SimpleStatement}
+use Rattle.module_semantics.specs.IR.{StatementTree, TypeInner, TypeResolution, Type_, block, branch, emit}
+use Rattle.module_semantics.specs.IR.{expression_operands, loop, simple, simple_operands, simple_result, switch}
 use Rattle.naga_ir.specs.declared.expression.Expression.TheVariants as expression
-use Rattle.naga_ir.specs.declared.module.EntryPoint.{EntryPoint}
-use Rattle.naga_ir.specs.declared.module.Function.{Function}
-use Rattle.naga_ir.specs.declared.module.Module.{Module}
-use Rattle.naga_ir.specs.declared.types.ArraySize.{ArraySize}
 use Rattle.naga_ir.specs.declared.types.ArraySize.TheVariants as size
-use Rattle.naga_ir.specs.declared.types.Type_.{Type_}
-use Rattle.naga_ir.specs.declared.types.TypeInner.{TypeInner}
 use Rattle.naga_ir.specs.declared.types.TypeInner.TheVariants as inner
-use Rattle.naga_info.specs.declared.info.ModuleInfo.{ModuleInfo}
-use Rattle.naga_info.specs.declared.info.TypeResolution.{TypeResolution}
 use Rattle.naga_info.proofs.Options.{map_some}
 use Rattle.naga_spelling.specs.Spelling.{length_within, size_within}
 use Rattle.naga_acceptance.specs.Faults.{ConstantFails, EntryPointFails, EntryPositionFails, FaultIs}

@@ -3,9 +3,7 @@ use Rattle.std.proofs.Common.{◌≡◌, ℕ, zero, suc, ◌+◌, ◌<◌, Bool,
 use Rattle.std.proofs.Common.{slice_get, slice_index_or}
 use Rattle.std.specs.Prelude.{Result, Ok, Err}
 use Rattle.std.specs.Result.{result_err}
-use Rattle.naga_ir.specs.StatementViews.{tree_of, block_of, cases_of}
-use Rattle.naga_ir.specs.declared.statement.Statement.{Statement}
-use Rattle.naga_ir.specs.declared.statement.SwitchCase.{SwitchCase}
+use Rattle.module_semantics.specs.IR.{Statement, SwitchCase, block_of, cases_of, tree_of}
 use Rattle.std.proofs.lemmas.List.{drop_more}
 use Rattle.naga_acceptance.specs.TextOrder.{case_statements, statements_in, statements_inside}
 use Rattle.fault_details.specs.Shown.{passed}

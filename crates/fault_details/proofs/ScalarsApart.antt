@@ -3,12 +3,9 @@ use Rattle.std.proofs.Common.{◌≡◌, ℕ, Bool, true, false, ◌==◌, List,
 use Rattle.std.proofs.Common.{true≢false, is_some}
 use Rattle.std.specs.Prelude.{if◌then◌else◌, unwrap_or}
 use Rattle.std.specs.Str.{bytes_eq}
-use Rattle.naga_ir.specs.Literals.{scalar_of}
-use Rattle.naga_ir.specs.declared.types.ScalarKind.{ScalarKind}
+use Rattle.module_semantics.specs.IR.{ScalarKind, Type_, Value, scalar_of}
 use Rattle.naga_ir.specs.declared.types.ScalarKind.TheVariants as kind
-use Rattle.naga_ir.specs.declared.types.Type_.{Type_}
 use Rattle.naga_ir.specs.declared.types.TypeInner.TheVariants as inner
-use Rattle.naga_info.specs.declared.info.TypeResolution.TheVariants.{Value}
 use Rattle.wgsl_words.specs.Words.{scalar_word}
 use Rattle.module_semantics.specs.AlikeTypes.{are_alike}
 use Rattle.module_semantics.specs.acceptance.StatementsFit.{is_signed, is_unsigned}

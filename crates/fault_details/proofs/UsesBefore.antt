@@ -13,12 +13,8 @@ use Rattle.std.specs.Option.{IfSome, option_map_or, option_or}
 use Rattle.std.specs.Prelude.{if◌then◌else◌}
 use Rattle.std.proofs.lemmas.Bool.{ltb-false, ltb-true}
 use Rattle.std.proofs.lemmas.Option.{same_Some, slice_get_within}
-use Rattle.naga_ir.specs.declared.expression.Expression.{Expression}
-use Rattle.naga_ir.specs.declared.module.Module.{Module}
-use Rattle.naga_ir.specs.declared.types.Type_.{Type_}
+use Rattle.module_semantics.specs.IR.{Expression, Module, ModuleInfo, TypeResolution, Type_}
 use Rattle.naga_info.proofs.Options.{then_some}
-use Rattle.naga_info.specs.declared.info.ModuleInfo.{ModuleInfo}
-use Rattle.naga_info.specs.declared.info.TypeResolution.{TypeResolution}
 use Rattle.naga_acceptance.specs.Faults.{DisagreesAt, FaultIs, site_of}
 use Rattle.naga_acceptance.specs.FirstUses.{first_below, first_other, first_other_at, first_other_in}
 use Rattle.naga_acceptance.specs.FirstUses.{other_type, other_use, other_use_in, placed_use}

@@ -7,9 +7,7 @@
 -- Throughout, m is a module, info what is known of it, and u a position with a kind of fault.
 use Rattle.std.specs.Prelude.{◌≡◌, ⊤, ◌≢◌, ◌≤◌, ◌<◌, false}
 use Rattle.std.specs.Option.{IfSome, option_map_or}
-use Rattle.naga_ir.specs.declared.module.Module.{Module}
-use Rattle.naga_info.specs.declared.info.ModuleInfo.{ModuleInfo}
-use Rattle.naga_info.specs.Resolution.{inner_of}
+use Rattle.module_semantics.specs.IR.{Module, ModuleInfo, inner_of}
 use Rattle.naga_acceptance.specs.declared.faults.Unaccepted.{Unaccepted}
 use Rattle.module_semantics.specs.AlikeTypes.{are_alike}
 use Rattle.fault_details.specs.Demands.{Reason, OtherType, KnownType, OtherClass, NoValue}

@@ -6,9 +6,7 @@
 -- type, and found is a position with the type of the use there and that of the one at fault.
 use Rattle.std.specs.Prelude.{◌≡◌, ◌<◌, ◌⊎◌, ℕ, Some, IsFalse, IsTrue, slice_get}
 use Rattle.std.specs.Option.{IfSome}
-use Rattle.naga_ir.specs.declared.module.Module.{Module}
-use Rattle.naga_info.specs.declared.info.ModuleInfo.{ModuleInfo}
-use Rattle.naga_info.specs.declared.info.TypeResolution.{TypeResolution}
+use Rattle.module_semantics.specs.IR.{Module, ModuleInfo, TypeResolution}
 use Rattle.naga_acceptance.specs.Faults.{Fails, site_of}
 use Rattle.naga_acceptance.specs.FirstUses.{other_use}
 use Rattle.naga_acceptance.specs.Uses.{is_same_operator, use_in}

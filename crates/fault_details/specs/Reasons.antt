@@ -13,34 +13,17 @@ use Rattle.std.specs.Prelude.{ℕ, Bool, false, not, List, [], ◌∷◌, length
 use Rattle.std.specs.Prelude.{Option, Some, None}
 use Rattle.std.specs.Option.{is_some, option_and_then, option_map}
 use Rattle.indexmap.specs.IndexMap.{keys, values}
-use Rattle.naga_ir.specs.Operands.{expression_operands, own_operands, own_result}
-use Rattle.naga_ir.specs.StatementTree.{SimpleStatement, emit, break, continue, return, store}
-use Rattle.naga_ir.specs.StatementTree.{atomic, call, subgroup_ballot}
-use Rattle.naga_ir.specs.StatementTree.{subgroup_collective_operation, subgroup_gather}
-use Rattle.naga_ir.specs.StatementTree.{work_group_uniform_load}
-use Rattle.naga_ir.specs.StatementTree.{StatementTree, simple, branch, switch, loop, CaseTrees}
-use Rattle.naga_ir.specs.StatementTree.{no_cases, case}
-use Rattle.naga_ir.specs.declared.expression.Expression.{Expression}
+use Rattle.module_semantics.specs.IR.{ArraySize, CaseTrees, EntryPoint, Expression, Function, FunctionArgument}
+use Rattle.module_semantics.specs.IR.{FunctionResult, Handle, Module, ModuleInfo, Scalar, SimpleStatement}
+use Rattle.module_semantics.specs.IR.{SpecialTypes, StatementTree, SwitchValue, SwizzleComponent, TypeInner}
+use Rattle.module_semantics.specs.IR.{TypeResolution, Type_, Value, VectorSize, atomic, branch, break, call, case}
+use Rattle.module_semantics.specs.IR.{continue, emit, expression_operands, loop, no_cases, own_operands, own_result}
+use Rattle.module_semantics.specs.IR.{return, simple, store, subgroup_ballot, subgroup_collective_operation}
+use Rattle.module_semantics.specs.IR.{subgroup_gather, switch, work_group_uniform_load}
 use Rattle.naga_ir.specs.declared.expression.Expression.TheVariants as expression
-use Rattle.naga_ir.specs.declared.expression.SwizzleComponent.{SwizzleComponent}
-use Rattle.naga_ir.specs.declared.module.EntryPoint.{EntryPoint}
-use Rattle.naga_ir.specs.declared.module.Function.{Function}
-use Rattle.naga_ir.specs.declared.module.FunctionArgument.{FunctionArgument}
-use Rattle.naga_ir.specs.declared.module.FunctionResult.{FunctionResult}
-use Rattle.naga_ir.specs.declared.module.Module.{Module}
-use Rattle.naga_ir.specs.declared.module.SpecialTypes.{SpecialTypes}
-use Rattle.naga_ir.specs.declared.statement.SwitchValue.{SwitchValue}
 use Rattle.naga_ir.specs.declared.statement.SwitchValue.TheVariants as switch_value
-use Rattle.naga_ir.specs.declared.types.ArraySize.{ArraySize}
 use Rattle.naga_ir.specs.declared.types.ArraySize.TheVariants as size
-use Rattle.naga_ir.specs.declared.types.Scalar.{Scalar}
-use Rattle.naga_ir.specs.declared.types.Type_.{Type_}
-use Rattle.naga_ir.specs.declared.types.TypeInner.{TypeInner}
 use Rattle.naga_ir.specs.declared.types.TypeInner.TheVariants as inner
-use Rattle.naga_ir.specs.declared.types.VectorSize.{VectorSize}
-use Rattle.naga_info.specs.declared.info.ModuleInfo.{ModuleInfo}
-use Rattle.naga_info.specs.declared.info.TypeResolution.{TypeResolution}
-use Rattle.naga_info.specs.declared.info.TypeResolution.TheVariants.{Handle, Value}
 use Rattle.naga_acceptance.specs.Faults.{known_of}
 use Rattle.naga_acceptance.specs.FirstUses.{other_use}
 use Rattle.naga_acceptance.specs.TextOrder.{PlacedStatement, text_order}

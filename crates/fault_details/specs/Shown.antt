@@ -1,8 +1,7 @@
 -- What the code's reasons and placed statements stand for.
 use Rattle.std.specs.Prelude.{ℕ, zero, suc, List, [], ◌∷◌, Result, Ok, Err}
-use Rattle.naga_ir.specs.StatementViews.{tree_of}
+use Rattle.module_semantics.specs.IR.{Value, tree_of}
 use Rattle.naga_ir.specs.declared.types.TypeInner.TheVariants as inner
-use Rattle.naga_info.specs.declared.info.TypeResolution.TheVariants.{Value}
 use Rattle.naga_acceptance.specs.KnownTypes.{inferred}
 use Rattle.naga_acceptance.specs.TextOrder.{PlacedStatement}
 use Rattle.fault_details.specs.Demands.{Reason as Told, OtherType, KnownType, OtherClass, NoValue}

@@ -6,11 +6,8 @@
 use Rattle.std.specs.Prelude.{◌≡◌, ◌≢◌, ⊤, ℕ, ◌⊎◌, List, ◌++◌, Option, Some, None}
 use Rattle.std.specs.Prelude.{codes, string_bytes}
 use Rattle.std.specs.Str.Iter.{HasSubslice}
-use Rattle.naga_ir.specs.declared.module.Module.{Module}
-use Rattle.naga_ir.specs.declared.types.TypeInner.{TypeInner}
+use Rattle.module_semantics.specs.IR.{Handle, Module, TypeInner, TypeResolution, Value}
 use Rattle.naga_ir.specs.declared.types.TypeInner.TheVariants as inner
-use Rattle.naga_info.specs.declared.info.TypeResolution.{TypeResolution}
-use Rattle.naga_info.specs.declared.info.TypeResolution.TheVariants.{Handle, Value}
 use Rattle.naga_spelling.specs.Contexts.{global_context}
 use Rattle.naga_spelling.specs.Segments.{IsText}
 use Rattle.naga_spelling.specs.Spelling.{Context, FitsResolution, IsInOrder, resolution_segments}

@@ -8,11 +8,7 @@ use Rattle.std.specs.Prelude.{◌≡◌, ◌≤◌, ◌^◌, ℕ, Bool, true, �
 use Rattle.std.specs.Prelude.{IsSome, IsTrue}
 use Rattle.std.specs.List.{list_all}
 use Rattle.std.specs.Option.{option_map_or}
-use Rattle.naga_ir.specs.StatementTree.{StatementTree, switch}
-use Rattle.naga_ir.specs.declared.module.EntryPoint.{EntryPoint}
-use Rattle.naga_ir.specs.declared.module.Function.{Function}
-use Rattle.naga_ir.specs.declared.module.Module.{Module}
-use Rattle.naga_info.specs.declared.info.ModuleInfo.{ModuleInfo}
+use Rattle.module_semantics.specs.IR.{EntryPoint, Function, Module, ModuleInfo, StatementTree, switch}
 use Rattle.naga_acceptance.specs.Faults.{Fails}
 use Rattle.naga_acceptance.specs.FirstFaults.{IsOfTypes}
 use Rattle.naga_acceptance.specs.TextOrder.{case_values_fit_32_bits, text_order}

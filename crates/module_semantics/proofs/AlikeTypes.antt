@@ -5,15 +5,10 @@ use Rattle.std.specs.Prelude.{if◌then◌else◌, unwrap_or}
 use Rattle.std.specs.Option.{option_map, option_map_or, is_some, is_none}
 use Rattle.std.specs.Bool.{nat_eq}
 use Rattle.std.specs.Str.{bytes_eq}
-use Rattle.naga_ir.specs.declared.image.ImageClass.{ImageClass}
+use Rattle.module_semantics.specs.IR.{Handle, ImageClass, ImageDimension, Scalar, TypeInner, TypeResolution, Type_}
+use Rattle.module_semantics.specs.IR.{Value}
 use Rattle.naga_ir.specs.declared.image.ImageClass.TheVariants as class
-use Rattle.naga_ir.specs.declared.image.ImageDimension.{ImageDimension}
-use Rattle.naga_ir.specs.declared.types.Scalar.{Scalar}
-use Rattle.naga_ir.specs.declared.types.Type_.{Type_}
-use Rattle.naga_ir.specs.declared.types.TypeInner.{TypeInner}
 use Rattle.naga_ir.specs.declared.types.TypeInner.TheVariants as inner
-use Rattle.naga_info.specs.declared.info.TypeResolution.{TypeResolution}
-use Rattle.naga_info.specs.declared.info.TypeResolution.TheVariants.{Handle, Value}
 use Rattle.naga_spelling.specs.Spelling.{is_struct}
 use Rattle.wgsl_words.specs.Words.{scalar_word, space_word}
 use Rattle.module_semantics.specs.TypeIdentity.{level, kind_number, truth_number, dimension_number}

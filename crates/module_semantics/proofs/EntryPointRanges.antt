@@ -4,8 +4,7 @@
 use Rattle.std.proofs.Common.{◌≡◌, true, List, [], ◌∷◌, length, refl, arith}
 use Rattle.std.specs.Option.{option_map}
 use Rattle.std.proofs.lemmas.Bool.{and_parts}
-use Rattle.naga_ir.specs.declared.module.EntryPoint.{EntryPoint}
-use Rattle.naga_ir.specs.declared.module.Module.{Module}
+use Rattle.module_semantics.specs.IR.{EntryPoint, Module}
 use Rattle.module_semantics.specs.acceptance.Numbers.{workgroup_fits_32_bits}
 use Rattle.module_semantics.specs.acceptance.Ranges.{entry_point_in_range, function_in_range}
 use Rattle.module_semantics.specs.acceptance.Ranges.{is_below, size_overrides_fit}

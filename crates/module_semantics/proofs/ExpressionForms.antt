@@ -3,12 +3,8 @@ use Rattle.std.proofs.Common.{List, ◌≡◌, ℕ, Bool, false, not, refl, true
 use Rattle.std.specs.Prelude.{◌&&◌, if◌then◌else◌, slice_get}
 use Rattle.std.specs.Option.{option_map_or}
 use Rattle.std.proofs.lemmas.Bool.{and_parts, not-true}
-use Rattle.naga_ir.specs.declared.module.Module.{Module}
-use Rattle.naga_ir.specs.declared.module.SpecialTypes.{SpecialTypes}
-use Rattle.naga_ir.specs.declared.types.Type_.{Type_}
-use Rattle.naga_info.specs.declared.info.ExpressionInfo.{ExpressionInfo}
-use Rattle.naga_info.specs.declared.info.TypeResolution.{TypeResolution}
-use Rattle.naga_info.specs.declared.info.TypeResolution.TheVariants.{Handle, Value}
+use Rattle.module_semantics.specs.IR.{Expression, ExpressionInfo, Handle, Module, SpecialTypes, TypeResolution, Type_}
+use Rattle.module_semantics.specs.IR.{Value}
 use Rattle.naga_spelling.specs.Spelling.{is_struct}
 use Rattle.module_semantics.specs.AlikeTypes.{has_type_form}
 use Rattle.module_semantics.specs.ExpressionForms.{expression_has_form, expression_has_own_form}
@@ -18,7 +14,6 @@ use Rattle.module_semantics.specs.LackingScalars.{base_type}
 use Rattle.module_semantics.specs.Undeclared.{is_spellable, is_undeclared, is_undeclared_struct}
 use Rattle.module_semantics.specs.Undeclared.{names_undeclared, names_undeclared_by}
 use Rattle.module_semantics.specs.Undeclared.{names_undeclared_within}
-use Rattle.naga_ir.specs.declared.expression.Expression.{Expression}
 
 -- what has a form is written, and so is its offset
 pub has_form_parts : (m : Module) (known : List ExpressionInfo) (es : List Expression)

@@ -7,25 +7,17 @@ use Rattle.std.proofs.Common.{◌≡◌, ℕ, Bool, true, false, List, [], ◌�
 use Rattle.std.proofs.Common.{ap, ◌∙◌}
 use Rattle.std.specs.Prelude.{IsTrue, if◌then◌else◌}
 use Rattle.std.specs.Option.{option_map_or, option_and_then, is_some, is_none}
-use Rattle.naga_ir.specs.Kinds.{kind_of}
-use Rattle.naga_ir.specs.Operands.{expression_operands}
-use Rattle.naga_ir.specs.declared.expression.CooperativeData.{CooperativeData}
+use Rattle.module_semantics.specs.IR.{CooperativeData, CooperativeRole, CooperativeSize, ExpressionKind, ImageQuery}
+use Rattle.module_semantics.specs.IR.{ScalarKind, TypeInner, TypeResolution, expression_operands, kind_of}
 use Rattle.naga_ir.specs.declared.expression.Expression as ir
 use Rattle.naga_ir.specs.declared.expression.Expression.TheVariants as expression
-use Rattle.naga_ir.specs.declared.expression.ImageQuery.{ImageQuery}
 use Rattle.naga_ir.specs.declared.expression.ImageQuery.TheVariants as query
-use Rattle.naga_ir.specs.declared.kind.ExpressionKind.{ExpressionKind}
 use Rattle.naga_ir.specs.declared.kind.ExpressionKind.TheVariants as kind
-use Rattle.naga_ir.specs.declared.types.CooperativeRole.{CooperativeRole}
-use Rattle.naga_ir.specs.declared.types.CooperativeSize.{CooperativeSize}
-use Rattle.naga_ir.specs.declared.types.ScalarKind.{ScalarKind}
-use Rattle.naga_info.specs.declared.info.TypeResolution.{TypeResolution}
 use Rattle.module_semantics.specs.ExpressionOperators.{ExpressionContext, cast, cast_to, constructor}
 use Rattle.module_semantics.specs.ExpressionOperators.{matrix_load, is_atomic_pointer, query_operator}
 use Rattle.module_semantics.specs.ExpressionOperators.{is_composite, has_parts, type_with}
 use Rattle.module_semantics.specs.ExpressionShapes.{ModuleDeclarations, shape_of, applied_shape, applied_or}
 use Rattle.module_semantics.specs.ExpressionShapes.{part_shape, part_selector, own_selector, selector}
-use Rattle.naga_ir.specs.declared.types.TypeInner.{TypeInner}
 use Rattle.naga_ir.specs.declared.types.TypeInner.TheVariants as inner
 use Rattle.module_semantics.specs.OperatorTable.{Operator as TableOperator, BinarySign, MakeSpelled}
 use Rattle.module_semantics.specs.OperatorTable.{AtomicLoad, CooperativeLoad, WithoutForm, ValueOf}

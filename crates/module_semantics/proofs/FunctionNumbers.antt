@@ -11,11 +11,7 @@ use Rattle.naga_back.specs.FunctionContext.{function_key}
 use Rattle.naga_back.specs.declared.context.FunctionType.{FunctionType}
 use Rattle.naga_back.specs.declared.context.FunctionType.TheVariants as item
 use Rattle.naga_info.proofs.Options.{map_some}
-use Rattle.naga_ir.specs.declared.module.EntryPoint.{EntryPoint}
-use Rattle.naga_ir.specs.declared.module.Function.{Function}
-use Rattle.naga_ir.specs.declared.module.Module.{Module}
-use Rattle.naga_info.specs.declared.info.ExpressionInfo.{ExpressionInfo}
-use Rattle.naga_info.specs.declared.info.ModuleInfo.{ModuleInfo}
+use Rattle.module_semantics.specs.IR.{EntryPoint, ExpressionInfo, Function, Module, ModuleInfo}
 use Rattle.module_semantics.specs.FunctionNumbers.{all_functions, all_infos, entry_functions}
 use Rattle.module_semantics.specs.FunctionNumbers.{callee_count, function_number, function_type}
 use Rattle.module_semantics.specs.FunctionNumbers.{IsFunctionOf}

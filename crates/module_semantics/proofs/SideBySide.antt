@@ -5,8 +5,7 @@ use Rattle.std.specs.List.{list_all, zip}
 use Rattle.std.specs.Option.{option_map, is_some}
 use Rattle.std.proofs.lemmas.Bool.{and_parts}
 use Rattle.std.proofs.lemmas.Option.{same_Some}
-use Rattle.naga_ir.specs.declared.module.Function.{Function}
-use Rattle.naga_info.specs.declared.info.ExpressionInfo.{ExpressionInfo}
+use Rattle.module_semantics.specs.IR.{ExpressionInfo, Function}
 use Rattle.module_semantics.specs.acceptance.AgreeingOperators.{function_group, function_groups}
 use Rattle.module_semantics.specs.acceptance.InfoSizes.{all_paired}
 use Rattle.module_semantics.proofs.Lists.{list_all_at}

@@ -1,8 +1,7 @@
 -- What is in range of a statement that is: its operands and its result.
 use Rattle.std.proofs.Common.{◌≡◌, ℕ, true, ◌&&◌}
 use Rattle.std.proofs.lemmas.Bool.{and_parts}
-use Rattle.naga_ir.specs.Operands.{simple_operands, simple_result}
-use Rattle.naga_ir.specs.StatementTree.{SimpleStatement}
+use Rattle.module_semantics.specs.IR.{SimpleStatement, simple_operands, simple_result}
 use Rattle.module_semantics.specs.acceptance.Ranges.{all_below, is_below, named_in_range}
 use Rattle.module_semantics.specs.acceptance.Ranges.{simple_in_range}
 

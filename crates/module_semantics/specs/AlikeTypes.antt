@@ -18,19 +18,11 @@ use Rattle.std.specs.Str.{bytes_eq}
 use denote.Enum.Declared.{tag_of}
 use Rattle.naga_ir.specs.contracts.image.StorageFormat.{the_type as formats}
 use Rattle.naga_ir.specs.declared.flags.StorageAccess.{StorageAccess}
-use Rattle.naga_ir.specs.declared.image.ImageClass.{ImageClass}
+use Rattle.module_semantics.specs.IR.{AddressSpace, ArraySize, Handle, ImageClass, ImageDimension, Scalar, TypeInner}
+use Rattle.module_semantics.specs.IR.{TypeResolution, Type_, Value, VectorSize}
 use Rattle.naga_ir.specs.declared.image.ImageClass.TheVariants as class
-use Rattle.naga_ir.specs.declared.image.ImageDimension.{ImageDimension}
-use Rattle.naga_ir.specs.declared.types.AddressSpace.{AddressSpace}
 use Rattle.naga_ir.specs.declared.types.AddressSpace.TheVariants as space
-use Rattle.naga_ir.specs.declared.types.ArraySize.{ArraySize}
-use Rattle.naga_ir.specs.declared.types.Scalar.{Scalar}
-use Rattle.naga_ir.specs.declared.types.Type_.{Type_}
-use Rattle.naga_ir.specs.declared.types.TypeInner.{TypeInner}
 use Rattle.naga_ir.specs.declared.types.TypeInner.TheVariants as inner
-use Rattle.naga_ir.specs.declared.types.VectorSize.{VectorSize}
-use Rattle.naga_info.specs.declared.info.TypeResolution.{TypeResolution}
-use Rattle.naga_info.specs.declared.info.TypeResolution.TheVariants.{Handle, Value}
 use Rattle.naga_spelling.specs.Spelling.{is_struct}
 use Rattle.wgsl_words.specs.Words.{has, atomic_bit, load_bit, store_bit, scalar_word, space_word}
 use Rattle.module_semantics.specs.TypeIdentity.{level, length_kind, length_number}

@@ -5,9 +5,7 @@
 -- Throughout, s is a scalar, and kind and convert are those of the conversion.
 use Rattle.std.specs.Prelude.{ℕ, Bool, false, Option, Some, None, unwrap_or}
 use Rattle.std.specs.Option.{is_none}
-use Rattle.naga_ir.specs.declared.types.Scalar.{Scalar}
-use Rattle.naga_ir.specs.declared.types.ScalarKind.{ScalarKind}
-use Rattle.naga_ir.specs.declared.types.TypeInner.{TypeInner}
+use Rattle.module_semantics.specs.IR.{Scalar, ScalarKind, TypeInner}
 use Rattle.naga_ir.specs.declared.types.TypeInner.TheVariants as inner
 
 -- a scalar of this kind, of the width that is told or of this one's

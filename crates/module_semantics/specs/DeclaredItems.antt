@@ -7,17 +7,11 @@ use Rattle.std.specs.Prelude.{ℕ, zero, suc, List, [], ◌∷◌, ◌++◌, Opt
 use Rattle.std.specs.Prelude.{slice_get}
 use Rattle.std.specs.List.{enumerate_from, filter, filter_map}
 use Rattle.std.specs.Option.{option_and_then, option_map, option_map_or, option_to_list}
-use Rattle.naga_ir.specs.declared.module.EntryPoint.{EntryPoint}
-use Rattle.naga_ir.specs.declared.module.Module.{Module}
-use Rattle.naga_ir.specs.declared.module.ShaderStage.{ShaderStage}
+use Rattle.module_semantics.specs.IR.{ArraySize, EntryPoint, Handle, Module, ModuleInfo, ShaderStage, TypeInner}
+use Rattle.module_semantics.specs.IR.{TypeResolution, Value}
 use Rattle.naga_ir.specs.declared.module.ShaderStage.TheVariants as stage
-use Rattle.naga_ir.specs.declared.types.ArraySize.{ArraySize}
 use Rattle.naga_ir.specs.declared.types.ArraySize.TheVariants as size
-use Rattle.naga_ir.specs.declared.types.TypeInner.{TypeInner}
 use Rattle.naga_ir.specs.declared.types.TypeInner.TheVariants as inner
-use Rattle.naga_info.specs.declared.info.ModuleInfo.{ModuleInfo}
-use Rattle.naga_info.specs.declared.info.TypeResolution.{TypeResolution}
-use Rattle.naga_info.specs.declared.info.TypeResolution.TheVariants.{Handle, Value}
 use Rattle.module_semantics.specs.ExpressionContexts.{global_tree, override_number}
 use Rattle.module_semantics.specs.Undeclared.{is_declared}
 use Rattle.shader_runs.specs.Resolution.{ConstantTarget, GlobalTarget, Target, constant_targets}

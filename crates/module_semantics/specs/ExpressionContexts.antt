@@ -7,11 +7,7 @@ use Rattle.std.specs.Prelude.{ℕ, zero, suc, Bool, false, List, [], ◌∷◌, 
 use Rattle.std.specs.Prelude.{Option, None, if◌then◌else◌, unwrap_or}
 use Rattle.std.specs.Option.{option_and_then, option_map, option_map_or, is_some}
 use Rattle.naga_ir.specs.declared.module.Constant as ir_constant
-use Rattle.naga_ir.specs.declared.module.Module.{Module}
-use Rattle.naga_info.specs.declared.info.ExpressionInfo.{ExpressionInfo}
-use Rattle.naga_info.specs.declared.info.ModuleInfo.{ModuleInfo}
-use Rattle.naga_info.specs.declared.info.TypeResolution.{TypeResolution}
-use Rattle.naga_info.specs.declared.info.TypeResolution.TheVariants.{Handle}
+use Rattle.module_semantics.specs.IR.{ExpressionInfo, Handle, Module, ModuleInfo, TypeResolution}
 use Rattle.naga_naming.specs.declared.key.NameKey.TheVariants as key
 use Rattle.module_semantics.specs.ExpressionOperators.{ExpressionContext, constructor}
 use Rattle.module_semantics.specs.ExpressionShapes.{ModuleDeclarations, computed_over}

@@ -8,7 +8,8 @@ use Rattle.std.specs.Prelude.{ℕ, zero, suc, Bool, true, false, ◌&&◌, ◌||
 use Rattle.std.specs.Prelude.{Option, nat_lt, slice_get}
 use Rattle.std.specs.List.{list_all}
 use Rattle.std.specs.Option.{option_and_then, option_map_or, is_some}
-use Rattle.naga_ir.specs.declared.expression.Expression.{Expression}
+use Rattle.module_semantics.specs.IR.{CooperativeRole, CooperativeSize, Expression, ExpressionInfo, Handle, Module}
+use Rattle.module_semantics.specs.IR.{Scalar, ScalarKind, TypeInner, Type_, Value, inner_of}
 use Rattle.naga_ir.specs.declared.expression.Expression.TheVariants.{Literal, Constant, Override}
 use Rattle.naga_ir.specs.declared.expression.Expression.TheVariants.{GlobalVariable, ZeroValue}
 use Rattle.naga_ir.specs.declared.expression.Expression.TheVariants.{Compose, Splat, AccessIndex}
@@ -19,19 +20,9 @@ use Rattle.naga_ir.specs.declared.expression.Expression.TheVariants.{ImageQuery}
 use Rattle.naga_ir.specs.declared.expression.Expression.TheVariants.{RayQueryProceedResult}
 use Rattle.naga_ir.specs.declared.expression.Literal.{Literal as LiteralValue}
 use Rattle.naga_ir.specs.declared.expression.Literal.TheVariants as literal
-use Rattle.naga_ir.specs.declared.module.Module.{Module}
 use Rattle.naga_ir.specs.Literals.{literal_scalar}
 use Rattle.naga_ir.specs.Operands.{expression_operands}
-use Rattle.naga_ir.specs.declared.types.CooperativeRole.{CooperativeRole}
-use Rattle.naga_ir.specs.declared.types.CooperativeSize.{CooperativeSize}
-use Rattle.naga_ir.specs.declared.types.Scalar.{Scalar}
-use Rattle.naga_ir.specs.declared.types.ScalarKind.{ScalarKind}
-use Rattle.naga_ir.specs.declared.types.Type_.{Type_}
-use Rattle.naga_ir.specs.declared.types.TypeInner.{TypeInner}
 use Rattle.naga_ir.specs.declared.types.TypeInner.TheVariants as inner
-use Rattle.naga_info.specs.Resolution.{inner_of}
-use Rattle.naga_info.specs.declared.info.ExpressionInfo.{ExpressionInfo}
-use Rattle.naga_info.specs.declared.info.TypeResolution.TheVariants.{Handle, Value}
 use Rattle.decimal_numerals.specs.Denoted.{is_in_range}
 use Rattle.module_semantics.specs.AlikeTypes.{has_type_form}
 use Rattle.module_semantics.specs.Conversions.{conversion_target}

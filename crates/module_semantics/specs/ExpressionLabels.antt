@@ -8,10 +8,8 @@ use Rattle.std.specs.Prelude.{length, nat_eq, nat_lt, slice_get, string_bytes, t
 use Rattle.std.specs.List.{flat_map}
 use Rattle.std.specs.Option.{option_map, option_map_or, option_to_list}
 use Rattle.indexmap.specs.IndexMap.{get}
-use Rattle.naga_ir.specs.StatementTree.{emit, StatementTree, simple, block, branch, switch, loop}
-use Rattle.naga_ir.specs.StatementTree.{BlockTree, no_statements, statement, CaseTrees, no_cases}
-use Rattle.naga_ir.specs.StatementTree.{case}
-use Rattle.naga_ir.specs.declared.module.Function.{Function}
+use Rattle.module_semantics.specs.IR.{BlockTree, CaseTrees, Function, StatementTree, block, branch, case, emit, loop}
+use Rattle.module_semantics.specs.IR.{no_cases, no_statements, simple, statement, switch}
 use Rattle.naga_naming.specs.Naming.{Names, label_stem, labels_with_stem, name_after}
 use Rattle.shader_runs.specs.Program.{from}
 

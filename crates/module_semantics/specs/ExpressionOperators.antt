@@ -7,26 +7,14 @@
 use Rattle.std.specs.Prelude.{ℕ, Bool, true, false, List, length, slice_get, Option, Some}
 use Rattle.std.specs.Prelude.{None, if◌then◌else◌}
 use Rattle.std.specs.Option.{option_map, option_map_or, option_and_then, is_some}
-use Rattle.naga_ir.specs.declared.expression.CooperativeData.{CooperativeData}
-use Rattle.naga_ir.specs.declared.expression.Expression.{Expression}
+use Rattle.module_semantics.specs.IR.{CooperativeData, CooperativeRole, CooperativeSize, Expression, Handle}
+use Rattle.module_semantics.specs.IR.{ImageClass, ImageQuery, SampleLevel, Scalar, ScalarKind, SwizzleComponent}
+use Rattle.module_semantics.specs.IR.{TypeInner, TypeResolution, Type_, Value, inner_of}
 use Rattle.naga_ir.specs.declared.expression.Expression.TheVariants as expression
-use Rattle.naga_ir.specs.declared.expression.ImageQuery.{ImageQuery}
 use Rattle.naga_ir.specs.declared.expression.ImageQuery.TheVariants as query
-use Rattle.naga_ir.specs.declared.expression.SampleLevel.{SampleLevel}
 use Rattle.naga_ir.specs.declared.expression.SampleLevel.TheVariants as level
-use Rattle.naga_ir.specs.declared.expression.SwizzleComponent.{SwizzleComponent}
-use Rattle.naga_ir.specs.declared.image.ImageClass.{ImageClass}
 use Rattle.naga_ir.specs.declared.image.ImageClass.TheVariants as class
-use Rattle.naga_ir.specs.declared.types.CooperativeRole.{CooperativeRole}
-use Rattle.naga_ir.specs.declared.types.CooperativeSize.{CooperativeSize}
-use Rattle.naga_ir.specs.declared.types.Scalar.{Scalar}
-use Rattle.naga_ir.specs.declared.types.ScalarKind.{ScalarKind}
-use Rattle.naga_ir.specs.declared.types.TypeInner.{TypeInner}
 use Rattle.naga_ir.specs.declared.types.TypeInner.TheVariants as inner
-use Rattle.naga_ir.specs.declared.types.Type_.{Type_}
-use Rattle.naga_info.specs.Resolution.{inner_of}
-use Rattle.naga_info.specs.declared.info.TypeResolution.{TypeResolution}
-use Rattle.naga_info.specs.declared.info.TypeResolution.TheVariants.{Handle, Value}
 use Rattle.module_semantics.specs.Conversions.{conversion_target, keeps_bits}
 use Rattle.module_semantics.specs.OperatorTable.{Operator, BinarySign, UnarySign, Select}
 use Rattle.module_semantics.specs.OperatorTable.{Math, Relational, Derivative, ArrayLength}

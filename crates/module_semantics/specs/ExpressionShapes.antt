@@ -7,19 +7,13 @@ use Rattle.std.specs.Prelude.{length, slice_get, Option, Some, None, ifâ—Œthenâ—
 use Rattle.std.specs.Prelude.{unwrap_or}
 use Rattle.std.specs.List.{flat_map}
 use Rattle.std.specs.Option.{option_map, option_map_or, option_and_then, is_some, option_to_list}
-use Rattle.naga_ir.specs.Operands.{expression_operands, level_operands}
+use Rattle.module_semantics.specs.IR.{Handle, SampleLevel, SwizzleComponent, TypeInner, TypeResolution, VectorSize}
+use Rattle.module_semantics.specs.IR.{expression_operands, handle_of, inner_of, level_operands}
 use Rattle.naga_ir.specs.declared.expression.Expression as ir
 use Rattle.naga_ir.specs.declared.expression.Expression.TheVariants as expression
-use Rattle.naga_ir.specs.declared.expression.SampleLevel.{SampleLevel}
-use Rattle.naga_ir.specs.declared.expression.SwizzleComponent.{SwizzleComponent}
 use Rattle.naga_ir.specs.declared.expression.SwizzleComponent.TheVariants as component
 use Rattle.naga_ir.specs.declared.operators.BinaryOperator.TheVariants as binary
-use Rattle.naga_ir.specs.declared.types.VectorSize.{VectorSize}
-use Rattle.naga_ir.specs.declared.types.TypeInner.{TypeInner}
 use Rattle.naga_ir.specs.declared.types.TypeInner.TheVariants as inner
-use Rattle.naga_info.specs.declared.info.TypeResolution.{TypeResolution}
-use Rattle.naga_info.specs.declared.info.TypeResolution.TheVariants.{Handle}
-use Rattle.naga_info.specs.Resolution.{inner_of, handle_of}
 use Rattle.module_semantics.specs.ExpressionOperators.{ExpressionContext, applied_operator}
 use Rattle.module_semantics.specs.ExpressionOperators.{constructor, part_operator}
 use Rattle.module_semantics.specs.ExpressionOperators.{type_with, load_operator, level_of}

@@ -3,9 +3,7 @@
 -- Throughout, m is a module, info what is known of it, named tells the names of the labels that
 -- front ends gave, and explicit says whether types are to be told.
 use Rattle.std.specs.Prelude.{◌≡◌, ℕ, List, [], ◌∷◌, map, slice_get, Bool, Option}
-use Rattle.naga_ir.specs.declared.module.Module.{Module}
-use Rattle.naga_info.specs.declared.info.ExpressionInfo.{ExpressionInfo}
-use Rattle.naga_info.specs.declared.info.ModuleInfo.{ModuleInfo}
+use Rattle.module_semantics.specs.IR.{ExpressionInfo, Module, ModuleInfo}
 use Rattle.naga_spelling.specs.Contexts.{Names as TypeNames}
 use Rattle.shader_runs.specs.Scope.{Naming}
 use Rattle.shader_runs.specs.NamedLets.{lines_lets, text_lets, function_named_lets, bound_names}

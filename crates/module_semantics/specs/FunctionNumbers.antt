@@ -6,11 +6,7 @@ use Rattle.std.specs.Prelude.{ℕ, ◌+◌, ◌-◌, ◌<◌, List, ◌++◌, le
 use Rattle.std.specs.Prelude.{vec_len}
 use Rattle.naga_back.specs.declared.context.FunctionType.{FunctionType}
 use Rattle.naga_back.specs.declared.context.FunctionType.TheVariants as item
-use Rattle.naga_info.specs.declared.info.ExpressionInfo.{ExpressionInfo}
-use Rattle.naga_info.specs.declared.info.ModuleInfo.{ModuleInfo}
-use Rattle.naga_ir.specs.declared.module.EntryPoint.{EntryPoint}
-use Rattle.naga_ir.specs.declared.module.Function.{Function}
-use Rattle.naga_ir.specs.declared.module.Module.{Module}
+use Rattle.module_semantics.specs.IR.{EntryPoint, ExpressionInfo, Function, Module, ModuleInfo}
 
 -- the functions of these entry points
 abbrev pub entry_functions : List EntryPoint → List Function

@@ -7,14 +7,12 @@ use Rattle.std.specs.Prelude.{ℕ, ◌+◌, List, [], ◌∷◌, map}
 use Rattle.std.specs.List.{zip}
 use Rattle.std.specs.Option.{option_map}
 use Rattle.indexmap.specs.IndexMap.{keys}
-use Rattle.naga_ir.specs.StatementTree.{StatementTree, simple, block, branch, switch, loop}
-use Rattle.naga_ir.specs.StatementTree.{BlockTree, no_statements, statement, CaseTrees, no_cases}
+use Rattle.module_semantics.specs.IR.{BlockTree, CaseTrees, ExpressionInfo, ModuleInfo, StatementTree, block, branch}
+use Rattle.module_semantics.specs.IR.{loop, no_cases, no_statements, simple, statement, switch}
 use Rattle.naga_ir.specs.StatementTree.{case as case_tree}
 use Rattle.naga_ir.specs.declared.expression.Expression as ir
 use Rattle.naga_ir.specs.declared.module.Function as ir_function
 use Rattle.naga_ir.specs.declared.module.Module as ir_module
-use Rattle.naga_info.specs.declared.info.ExpressionInfo.{ExpressionInfo}
-use Rattle.naga_info.specs.declared.info.ModuleInfo.{ModuleInfo}
 use Rattle.module_semantics.specs.LetCounts.{are_bound_by_uses}
 use Rattle.module_semantics.specs.ExpressionOperators.{ExpressionContext}
 use Rattle.module_semantics.specs.ExpressionShapes.{ModuleDeclarations, shape_of}

@@ -6,14 +6,9 @@
 -- it a type by itself, s a scalar and r a type of an expression.
 use Rattle.std.specs.Prelude.{ℕ, zero, suc, List, Option, Some, None, if◌then◌else◌, slice_get}
 use Rattle.std.specs.Option.{is_some, option_and_then, option_map_or}
-use Rattle.naga_ir.specs.declared.image.ImageClass.{ImageClass}
+use Rattle.module_semantics.specs.IR.{Handle, ImageClass, Scalar, TypeInner, TypeResolution, Type_, Value}
 use Rattle.naga_ir.specs.declared.image.ImageClass.TheVariants as class
-use Rattle.naga_ir.specs.declared.types.Scalar.{Scalar}
-use Rattle.naga_ir.specs.declared.types.Type_.{Type_}
-use Rattle.naga_ir.specs.declared.types.TypeInner.{TypeInner}
 use Rattle.naga_ir.specs.declared.types.TypeInner.TheVariants as inner
-use Rattle.naga_info.specs.declared.info.TypeResolution.{TypeResolution}
-use Rattle.naga_info.specs.declared.info.TypeResolution.TheVariants.{Handle, Value}
 use Rattle.wgsl_words.specs.Words.{scalar_word}
 
 -- the scalar, where WGSL has no word for it

@@ -5,8 +5,7 @@ use Rattle.shader_runs.specs.Constants.{run_module}
 use Rattle.shader_runs.specs.Program.{Function, function_numbered}
 use Rattle.shader_runs.specs.Value.{Value, has_types}
 use Rattle.shader_runs.specs.World.{Event}
-use Rattle.naga_ir.specs.declared.module.Module.{Module}
-use Rattle.naga_info.specs.declared.info.ModuleInfo.{ModuleInfo}
+use Rattle.module_semantics.specs.IR.{Module, ModuleInfo}
 use Rattle.wgsl_text.specs.Declarations.{Program}
 use Rattle.shader_runs.specs.World.{World, Meaning, Settings}
 use Rattle.shader_runs.specs.Premises.{IsTyped, SettingsFit}

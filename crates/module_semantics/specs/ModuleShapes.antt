@@ -7,9 +7,8 @@ use Rattle.std.specs.Prelude.{List, ◌++◌, map, reverse, if◌then◌else◌,
 use Rattle.std.specs.List.{filter}
 use Rattle.std.specs.Option.{is_some}
 use Rattle.naga_ir.specs.declared.module.Constant as ir_constant
-use Rattle.naga_ir.specs.declared.module.GlobalVariable.{GlobalVariable}
+use Rattle.module_semantics.specs.IR.{GlobalVariable, ModuleInfo}
 use Rattle.naga_ir.specs.declared.module.Module as ir_module
-use Rattle.naga_info.specs.declared.info.ModuleInfo.{ModuleInfo}
 use Rattle.module_semantics.specs.acceptance.ExpressionTypes.{variable_type}
 use Rattle.module_semantics.specs.FunctionNumbers.{all_functions, all_infos}
 use Rattle.module_semantics.specs.FunctionShapes.{function_shapes}

@@ -7,9 +7,7 @@ use Rattle.std.specs.FinSet as set
 use Rattle.std.specs.Map.{update_all}
 use Rattle.std.specs.Option.{option_map_or}
 use Rattle.naga_ir.specs.declared.module.Function as ir_function
-use Rattle.naga_ir.specs.declared.module.Module.{Module}
-use Rattle.naga_ir.specs.declared.types.StructMember.{StructMember}
-use Rattle.naga_ir.specs.declared.types.Type_.{Type_}
+use Rattle.module_semantics.specs.IR.{Module, StructMember, Type_}
 use Rattle.naga_naming.specs.Naming.{Names, new_names}
 use Rattle.naga_naming.specs.Keys.{NameMap, same_key}
 use Rattle.naga_naming.specs.Reset.{is_member, labelled_items, LabelledItem, labels_of, members_of}

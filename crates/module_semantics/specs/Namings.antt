@@ -9,8 +9,7 @@ use Rattle.std.specs.Option.{is_some, option_map_or}
 use Rattle.naga_ir.specs.declared.module.Constant as ir_constant
 use Rattle.naga_ir.specs.declared.module.Function as ir_function
 use Rattle.naga_ir.specs.declared.module.Module as ir_module
-use Rattle.naga_info.specs.declared.info.ExpressionInfo.{ExpressionInfo}
-use Rattle.naga_info.specs.declared.info.ModuleInfo.{ModuleInfo}
+use Rattle.module_semantics.specs.IR.{ExpressionInfo, ModuleInfo}
 use Rattle.naga_naming.specs.Keys.{NameMap}
 use Rattle.naga_naming.specs.declared.key.NameKey.{NameKey}
 use Rattle.naga_naming.specs.declared.key.NameKey.TheVariants as key

@@ -5,27 +5,17 @@
 use Rattle.std.specs.Prelude.{ℕ, ◌||◌, ◌+◌, Bool, true, false, List, [], ◌∷◌, ◌++◌, Option, Some}
 use Rattle.std.specs.Prelude.{None, codes, ⊤, ◌≡◌, unwrap_or, if◌then◌else◌}
 use Rattle.std.specs.Option.{option_to_list, is_some}
-use Rattle.naga_ir.specs.declared.expression.SwizzleComponent.{SwizzleComponent}
+use Rattle.module_semantics.specs.IR.{BinaryOperator, CollectiveOperation, CooperativeRole, CooperativeSize}
+use Rattle.module_semantics.specs.IR.{DerivativeAxis, DerivativeControl, MathFunction, RelationalFunction, ScalarKind}
+use Rattle.module_semantics.specs.IR.{SubgroupOperation, SwizzleComponent, UnaryOperator, VectorSize}
 use Rattle.naga_ir.specs.declared.expression.SwizzleComponent.TheVariants as component
-use Rattle.naga_ir.specs.declared.types.CooperativeRole.{CooperativeRole}
-use Rattle.naga_ir.specs.declared.types.CooperativeSize.{CooperativeSize}
-use Rattle.naga_ir.specs.declared.types.ScalarKind.{ScalarKind}
-use Rattle.naga_ir.specs.declared.types.VectorSize.{VectorSize}
-use Rattle.naga_ir.specs.declared.operators.BinaryOperator.{BinaryOperator}
 use Rattle.naga_ir.specs.declared.operators.BinaryOperator.TheVariants as binary
-use Rattle.naga_ir.specs.declared.operators.UnaryOperator.{UnaryOperator}
 use Rattle.naga_ir.specs.declared.operators.UnaryOperator.TheVariants as unary
-use Rattle.naga_ir.specs.declared.operators.MathFunction.{MathFunction}
 use Rattle.naga_ir.specs.declared.operators.MathFunction.TheVariants as math
-use Rattle.naga_ir.specs.declared.operators.RelationalFunction.{RelationalFunction}
 use Rattle.naga_ir.specs.declared.operators.RelationalFunction.TheVariants as relational
-use Rattle.naga_ir.specs.declared.operators.DerivativeAxis.{DerivativeAxis}
 use Rattle.naga_ir.specs.declared.operators.DerivativeAxis.TheVariants as axis
-use Rattle.naga_ir.specs.declared.operators.DerivativeControl.{DerivativeControl}
 use Rattle.naga_ir.specs.declared.operators.DerivativeControl.TheVariants as control
-use Rattle.naga_ir.specs.declared.operators.SubgroupOperation.{SubgroupOperation}
 use Rattle.naga_ir.specs.declared.operators.SubgroupOperation.TheVariants as subgroup
-use Rattle.naga_ir.specs.declared.operators.CollectiveOperation.{CollectiveOperation}
 use Rattle.naga_ir.specs.declared.operators.CollectiveOperation.TheVariants as collective
 use Rattle.naga_ir.specs.declared.operators.Direction.{Direction}
 use Rattle.naga_ir.specs.declared.operators.Direction.TheVariants as direction

@@ -12,16 +12,10 @@ use Rattle.std.specs.List.{enumerate_from, find, flat_map, zip}
 use Rattle.std.specs.Option.{option_map_or}
 use Rattle.naga_ir.specs.declared.expression.Expression as ir
 use Rattle.naga_ir.specs.declared.expression.Expression.TheVariants as expression
-use Rattle.naga_ir.specs.declared.module.Module.{Module}
-use Rattle.naga_ir.specs.declared.types.AddressSpace.{AddressSpace}
+use Rattle.module_semantics.specs.IR.{AddressSpace, Handle, Module, ModuleInfo, TypeInner, TypeResolution, Type_}
+use Rattle.module_semantics.specs.IR.{Value, inner_of}
 use Rattle.naga_ir.specs.declared.types.AddressSpace.TheVariants as space
-use Rattle.naga_ir.specs.declared.types.Type_.{Type_}
-use Rattle.naga_ir.specs.declared.types.TypeInner.{TypeInner}
 use Rattle.naga_ir.specs.declared.types.TypeInner.TheVariants as inner
-use Rattle.naga_info.specs.Resolution.{inner_of}
-use Rattle.naga_info.specs.declared.info.ModuleInfo.{ModuleInfo}
-use Rattle.naga_info.specs.declared.info.TypeResolution.{TypeResolution}
-use Rattle.naga_info.specs.declared.info.TypeResolution.TheVariants.{Handle, Value}
 use Rattle.naga_naming.specs.declared.key.NameKey.TheVariants as key
 use Rattle.module_semantics.specs.acceptance.AgreeingOperators.{Group, groups_of}
 use Rattle.module_semantics.specs.AlikeTypes.{has_type_form}

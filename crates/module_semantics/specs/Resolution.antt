@@ -3,11 +3,7 @@
 -- struct has a member: these are told by themselves.
 use Rattle.std.specs.Prelude.{◌≡◌, ℕ, List, map, Some, IfSome, IsTrue, slice_get, length}
 use Rattle.std.specs.List.{enumerate_from}
-use Rattle.naga_ir.specs.declared.module.Module.{Module}
-use Rattle.naga_ir.specs.declared.types.StructMember.{StructMember}
-use Rattle.naga_ir.specs.declared.types.Type_.{Type_}
-use Rattle.naga_info.specs.declared.info.ModuleInfo.{ModuleInfo}
-use Rattle.naga_info.specs.declared.info.TypeResolution.{TypeResolution}
+use Rattle.module_semantics.specs.IR.{Module, ModuleInfo, StructMember, TypeResolution, Type_}
 use Rattle.naga_naming.specs.Keys.{NameMap}
 use Rattle.naga_naming.specs.Reset.{members_of}
 use Rattle.naga_naming.specs.declared.key.NameKey.TheVariants as key

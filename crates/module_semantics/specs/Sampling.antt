@@ -4,10 +4,8 @@
 -- Throughout, es are the expressions of a function, and e is one.
 use Rattle.std.specs.Prelude.{ℕ, Bool, true, List, Option, Some, None}
 use Rattle.std.specs.Option.{option_map_or, is_some}
-use Rattle.naga_ir.specs.declared.expression.Expression.{Expression}
+use Rattle.module_semantics.specs.IR.{Expression, SampleLevel, SwizzleComponent}
 use Rattle.naga_ir.specs.declared.expression.Expression.TheVariants as expression
-use Rattle.naga_ir.specs.declared.expression.SampleLevel.{SampleLevel}
-use Rattle.naga_ir.specs.declared.expression.SwizzleComponent.{SwizzleComponent}
 use Rattle.module_semantics.specs.ExpressionOperators.{level_of}
 use Rattle.module_semantics.specs.OperatorTable.{gather_word, image_sample_word}
 use Rattle.module_semantics.specs.WrittenOut.{is_written_out}

@@ -5,11 +5,10 @@
 use Rattle.std.specs.Prelude.{ℕ, Bool, false, [], Option, Some, None, ◌==◌}
 use Rattle.std.specs.Int.RustNames.{bit_and}
 use Rattle.std.specs.Option.{option_map_or}
-use Rattle.naga_ir.specs.declared.binding.Binding.{Binding}
+use Rattle.module_semantics.specs.IR.{Binding, MemoryDecorations}
 use Rattle.naga_ir.specs.declared.binding.Binding.TheVariants.{BuiltIn, Location}
 use Rattle.naga_ir.specs.declared.binding.BuiltIn as builtins
 use Rattle.naga_ir.specs.declared.binding.BuiltIn.TheVariants as builtin
-use Rattle.naga_ir.specs.declared.flags.MemoryDecorations.{MemoryDecorations}
 use Rattle.wgsl_words.specs.Words.{builtin_word, interpolation_word, sampling_word}
 use Rattle.text_semantics.specs.Attributes.{StageBinding, WithoutBinding, BuiltinValue, AtLocation}
 use Rattle.text_semantics.specs.Attributes.{default_interpolation, default_sampling}

@@ -5,9 +5,8 @@
 -- Throughout, b is the rest of a block, and cs are the further cases.
 use Rattle.std.specs.Prelude.{Bool, true, ◌&&◌, ◌||◌, not}
 use Rattle.std.specs.Option.{option_map_or}
-use Rattle.naga_ir.specs.StatementTree.{SimpleStatement, StatementTree, simple, block, branch}
-use Rattle.naga_ir.specs.StatementTree.{switch, loop, BlockTree, no_statements, statement}
-use Rattle.naga_ir.specs.StatementTree.{CaseTrees, no_cases, case, has_no_statements}
+use Rattle.module_semantics.specs.IR.{BlockTree, CaseTrees, SimpleStatement, StatementTree, block, branch, case}
+use Rattle.module_semantics.specs.IR.{has_no_statements, loop, no_cases, no_statements, simple, statement, switch}
 use Rattle.module_semantics.specs.OperatorTable.{has_word}
 use Rattle.module_semantics.specs.StatementShapes.{act_operator}
 

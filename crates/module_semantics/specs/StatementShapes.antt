@@ -5,13 +5,12 @@
 use Rattle.std.specs.Prelude.{ℕ, Bool, ◌-◌, ◌==◌, Option, Some, None, if◌then◌else◌}
 use Rattle.std.specs.Int.Bits.{bit_and}
 use Rattle.std.specs.Option.{is_some}
-use Rattle.naga_ir.specs.Operands.{simple_operands, simple_result}
-use Rattle.naga_ir.specs.StatementTree.{SimpleStatement, emit, break, continue, return, kill}
-use Rattle.naga_ir.specs.StatementTree.{control_barrier, memory_barrier, store, image_store, atomic}
-use Rattle.naga_ir.specs.StatementTree.{image_atomic, work_group_uniform_load, call, ray_query}
-use Rattle.naga_ir.specs.StatementTree.{subgroup_ballot, subgroup_gather}
-use Rattle.naga_ir.specs.StatementTree.{subgroup_collective_operation, cooperative_store}
-use Rattle.naga_ir.specs.StatementTree.{ray_pipeline_function}
+use Rattle.module_semantics.specs.IR.{SimpleStatement, atomic, break, call, continue, control_barrier}
+use Rattle.module_semantics.specs.IR.{cooperative_store, emit, image_atomic, image_store, memory_barrier}
+use Rattle.module_semantics.specs.IR.{ray_pipeline_function, ray_query, return, simple_operands, simple_result, store}
+use Rattle.module_semantics.specs.IR.{subgroup_ballot, subgroup_collective_operation, subgroup_gather}
+use Rattle.module_semantics.specs.IR.{work_group_uniform_load}
+use Rattle.naga_ir.specs.StatementTree.{kill}
 use Rattle.naga_ir.specs.declared.flags.Barrier.{Barrier as Flags}
 use Rattle.naga_ir.specs.declared.operators.AtomicFunction.{AtomicFunction}
 use Rattle.naga_ir.specs.declared.operators.AtomicFunction.TheVariants as function

@@ -6,15 +6,11 @@
 -- further cases.
 use Rattle.std.specs.Prelude.{Bool, true, false, ◌||◌}
 use Rattle.std.specs.List.{enumerate_from, list_any}
-use Rattle.naga_ir.specs.StatementTree.{SimpleStatement, control_barrier, memory_barrier}
-use Rattle.naga_ir.specs.StatementTree.{subgroup_ballot, subgroup_gather}
-use Rattle.naga_ir.specs.StatementTree.{subgroup_collective_operation}
-use Rattle.naga_ir.specs.StatementTree.{StatementTree, simple, block, branch}
-use Rattle.naga_ir.specs.StatementTree.{switch, loop, BlockTree, no_statements, statement}
-use Rattle.naga_ir.specs.StatementTree.{CaseTrees, no_cases, case}
-use Rattle.naga_ir.specs.declared.binding.BuiltIn.{BuiltIn}
+use Rattle.module_semantics.specs.IR.{BlockTree, BuiltIn, CaseTrees, Module, SimpleStatement, StatementTree, block}
+use Rattle.module_semantics.specs.IR.{branch, case, control_barrier, loop, memory_barrier, no_cases, no_statements}
+use Rattle.module_semantics.specs.IR.{simple, statement, subgroup_ballot, subgroup_collective_operation}
+use Rattle.module_semantics.specs.IR.{subgroup_gather, switch}
 use Rattle.naga_ir.specs.declared.binding.BuiltIn.TheVariants as builtin
-use Rattle.naga_ir.specs.declared.module.Module.{Module}
 use Rattle.module_semantics.specs.StatementShapes.{barrier_bits}
 
 -- how many subgroups there are, which of them this is, how many invocations it has, and which of

@@ -3,10 +3,8 @@
 -- Throughout, v is a case value, s a statement, b a block or the rest of one, cs are the further
 -- cases, and a case falls through where it falls.
 use Rattle.std.specs.Prelude.{List, [], ◌∷◌, ◌++◌}
-use Rattle.naga_ir.specs.StatementTree.{StatementTree, simple, block, branch, switch, loop}
-use Rattle.naga_ir.specs.StatementTree.{BlockTree, no_statements, statement, CaseTrees, no_cases}
-use Rattle.naga_ir.specs.StatementTree.{case}
-use Rattle.naga_ir.specs.declared.statement.SwitchValue.{SwitchValue}
+use Rattle.module_semantics.specs.IR.{BlockTree, CaseTrees, StatementTree, SwitchValue, block, branch, case, loop}
+use Rattle.module_semantics.specs.IR.{no_cases, no_statements, simple, statement, switch}
 use Rattle.naga_ir.specs.declared.statement.SwitchValue.TheVariants as switch_value
 use Rattle.text_semantics.specs.Switches.{CaseValueInterface, Signed, Unsigned, Default}
 

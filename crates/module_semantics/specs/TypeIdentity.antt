@@ -6,26 +6,16 @@ use Rattle.std.specs.Option.{option_map}
 use Rattle.std.specs.Int.NonZero.{non_zero_u32_get}
 use denote.Enum.Declared.{tag_of}
 use Rattle.naga_ir.specs.contracts.image.StorageFormat.{the_type as formats}
-use Rattle.naga_ir.specs.declared.image.ImageClass.{ImageClass}
+use Rattle.module_semantics.specs.IR.{AddressSpace, ArraySize, CooperativeRole, CooperativeSize, Handle, ImageClass}
+use Rattle.module_semantics.specs.IR.{ImageDimension, ScalarKind, TypeInner, TypeResolution, Type_, Value, VectorSize}
 use Rattle.naga_ir.specs.declared.image.ImageClass.TheVariants as class
-use Rattle.naga_ir.specs.declared.image.ImageDimension.{ImageDimension}
 use Rattle.naga_ir.specs.declared.image.ImageDimension.TheVariants as dimension
-use Rattle.naga_ir.specs.declared.types.AddressSpace.{AddressSpace}
 use Rattle.naga_ir.specs.declared.types.AddressSpace.TheVariants as space
-use Rattle.naga_ir.specs.declared.types.CooperativeRole.{CooperativeRole}
 use Rattle.naga_ir.specs.declared.types.CooperativeRole.TheVariants as role
-use Rattle.naga_ir.specs.declared.types.CooperativeSize.{CooperativeSize}
 use Rattle.naga_ir.specs.declared.types.CooperativeSize.TheVariants as cooperative
-use Rattle.naga_ir.specs.declared.types.ScalarKind.{ScalarKind}
 use Rattle.naga_ir.specs.declared.types.ScalarKind.TheVariants as kind
-use Rattle.naga_ir.specs.declared.types.VectorSize.{VectorSize}
 use Rattle.naga_ir.specs.declared.types.VectorSize.TheVariants as vector
-use Rattle.naga_info.specs.declared.info.TypeResolution.{TypeResolution}
-use Rattle.naga_info.specs.declared.info.TypeResolution.TheVariants.{Handle, Value}
-use Rattle.naga_ir.specs.declared.types.ArraySize.{ArraySize}
 use Rattle.naga_ir.specs.declared.types.ArraySize.TheVariants as size
-use Rattle.naga_ir.specs.declared.types.Type_.{Type_}
-use Rattle.naga_ir.specs.declared.types.TypeInner.{TypeInner}
 use Rattle.naga_ir.specs.declared.types.TypeInner.TheVariants as inner
 use Rattle.naga_spelling.specs.Spelling.{is_struct}
 

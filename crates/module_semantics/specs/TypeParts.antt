@@ -11,18 +11,10 @@ use Rattle.std.specs.Prelude.{ℕ, Bool, true, false, List, length, Option, Some
 use Rattle.std.specs.Prelude.{nat_lt}
 use Rattle.std.specs.Option.{option_map, option_map_or, option_and_then, is_some}
 use Rattle.std.specs.Int.NonZero.{non_zero_u32_get}
-use Rattle.naga_ir.specs.declared.types.AddressSpace.{AddressSpace}
-use Rattle.naga_ir.specs.declared.types.ArraySize.{ArraySize}
+use Rattle.module_semantics.specs.IR.{AddressSpace, ArraySize, Handle, Scalar, StructMember, TypeInner, TypeResolution}
+use Rattle.module_semantics.specs.IR.{Type_, Value, VectorSize, inner_of}
 use Rattle.naga_ir.specs.declared.types.ArraySize.TheVariants as size
-use Rattle.naga_ir.specs.declared.types.Scalar.{Scalar}
-use Rattle.naga_ir.specs.declared.types.StructMember.{StructMember}
-use Rattle.naga_ir.specs.declared.types.Type_.{Type_}
-use Rattle.naga_ir.specs.declared.types.TypeInner.{TypeInner}
 use Rattle.naga_ir.specs.declared.types.TypeInner.TheVariants as inner
-use Rattle.naga_ir.specs.declared.types.VectorSize.{VectorSize}
-use Rattle.naga_info.specs.declared.info.TypeResolution.{TypeResolution}
-use Rattle.naga_info.specs.declared.info.TypeResolution.TheVariants.{Handle, Value}
-use Rattle.naga_info.specs.Resolution.{inner_of}
 use Rattle.module_semantics.specs.TypeIdentity.{component_count}
 
 -- the type of the module with this handle, by itself

@@ -7,16 +7,11 @@ use Rattle.std.specs.Prelude.{ℕ, Bool, true, false, slice_get, List, [], Optio
 use Rattle.std.specs.Prelude.{if◌then◌else◌, codes, unwrap_or}
 use Rattle.std.specs.Option.{option_and_then, option_map_or}
 use Rattle.std.specs.Str.{bytes_eq}
-use Rattle.naga_ir.specs.declared.module.Module.{Module}
+use Rattle.module_semantics.specs.IR.{ExpressionInfo, Handle, Module, ScalarKind, TypeInner, TypeResolution, Value}
+use Rattle.module_semantics.specs.IR.{inner_of}
 use Rattle.naga_ir.specs.declared.types.AddressSpace.TheVariants as space
-use Rattle.naga_ir.specs.declared.types.ScalarKind.{ScalarKind}
 use Rattle.naga_ir.specs.declared.types.ScalarKind.TheVariants as kind
-use Rattle.naga_ir.specs.declared.types.TypeInner.{TypeInner}
 use Rattle.naga_ir.specs.declared.types.TypeInner.TheVariants as inner
-use Rattle.naga_info.specs.Resolution.{inner_of}
-use Rattle.naga_info.specs.declared.info.ExpressionInfo.{ExpressionInfo}
-use Rattle.naga_info.specs.declared.info.TypeResolution.{TypeResolution}
-use Rattle.naga_info.specs.declared.info.TypeResolution.TheVariants.{Handle, Value}
 use Rattle.naga_spelling.specs.Contexts.{names_of, Names as TypeNames, writer_context}
 use Rattle.naga_spelling.specs.Segments.{known_text}
 use Rattle.naga_spelling.specs.Spelling.{Context, type_segments, resolution_segments}

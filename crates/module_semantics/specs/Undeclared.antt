@@ -12,15 +12,8 @@ use Rattle.std.specs.Prelude.{None, Option, Some, nat_eq, nat_lt, length, slice_
 use Rattle.std.specs.List.{enumerate_from, filter_map, list_any}
 use Rattle.std.specs.Option.{option_and_then, option_map_or}
 use Rattle.indexmap.specs.IndexMap.{values}
-use Rattle.naga_info.specs.Resolution.{handle_of, inner_of}
-use Rattle.naga_info.specs.declared.info.ExpressionInfo.{ExpressionInfo}
-use Rattle.naga_info.specs.declared.info.TypeResolution.{TypeResolution}
-use Rattle.naga_info.specs.declared.info.TypeResolution.TheVariants.{Handle, Value}
-use Rattle.naga_ir.specs.declared.module.Module.{Module}
-use Rattle.naga_ir.specs.declared.module.SpecialTypes.{SpecialTypes}
-use Rattle.naga_ir.specs.declared.types.StructMember.{StructMember}
-use Rattle.naga_ir.specs.declared.types.Type_.{Type_}
-use Rattle.naga_ir.specs.declared.types.TypeInner.{TypeInner}
+use Rattle.module_semantics.specs.IR.{ExpressionInfo, Handle, Module, SpecialTypes, StructMember, TypeInner}
+use Rattle.module_semantics.specs.IR.{TypeResolution, Type_, Value, handle_of, inner_of}
 use Rattle.naga_ir.specs.declared.types.TypeInner.TheVariants as inner
 use Rattle.naga_naming.specs.Keys.{NameMap}
 use Rattle.naga_naming.specs.Reset.{members_of}

@@ -15,20 +15,11 @@ use Rattle.module_semantics.specs.FunctionShapes.{function_shape}
 use Rattle.module_semantics.specs.StatementForms.{block_has_forms}
 use Rattle.module_semantics.specs.ExpressionForms.{expression_has_form}
 use Rattle.module_semantics.specs.Undeclared.{is_spellable, names_undeclared}
-use Rattle.naga_info.specs.declared.info.ExpressionInfo.{ExpressionInfo}
-use Rattle.naga_info.specs.declared.info.ModuleInfo.{ModuleInfo}
-use Rattle.naga_info.specs.declared.info.TypeResolution.{TypeResolution}
-use Rattle.naga_info.specs.declared.info.TypeResolution.TheVariants.{Handle}
-use Rattle.naga_ir.specs.Operands.{expression_operands, simple_operands, simple_result}
-use Rattle.naga_ir.specs.StatementTree.{SimpleStatement, emit, StatementTree, simple, block, branch}
-use Rattle.naga_ir.specs.StatementTree.{switch, loop, BlockTree, no_statements, statement}
-use Rattle.naga_ir.specs.StatementTree.{CaseTrees, no_cases, case}
-use Rattle.naga_ir.specs.declared.expression.Expression.{Expression}
-use Rattle.naga_ir.specs.declared.module.Function.{Function}
-use Rattle.naga_ir.specs.declared.module.FunctionArgument.{FunctionArgument}
-use Rattle.naga_ir.specs.declared.module.FunctionResult.{FunctionResult}
-use Rattle.naga_ir.specs.declared.module.LocalVariable.{LocalVariable}
-use Rattle.naga_ir.specs.declared.module.Module.{Module}
+use Rattle.module_semantics.specs.IR.{BlockTree, CaseTrees, Expression, ExpressionInfo, Function, FunctionArgument}
+use Rattle.module_semantics.specs.IR.{FunctionResult, Handle, LocalVariable, Module, ModuleInfo, SimpleStatement}
+use Rattle.module_semantics.specs.IR.{StatementTree, TypeResolution, block, branch, case, emit, expression_operands}
+use Rattle.module_semantics.specs.IR.{loop, no_cases, no_statements, simple, simple_operands, simple_result, statement}
+use Rattle.module_semantics.specs.IR.{switch}
 use Rattle.shader_runs.specs.Program.{binds, from}
 
 -- the handles that a statement without blocks writes by itself: of an `Emit` those that are bound,

@@ -19,10 +19,7 @@ use Rattle.std.proofs.lemmas.List.{get_or-set_same, get_or-set_other}
 use Rattle.std.proofs.lemmas.Bool.Decides.{Decides-int_eq}
 use Rattle.std.proofs.lemmas.List.Recursion.{is_count_by}
 use Rattle.std.proofs.lemmas.List.Sorted.{sum_by-IsPermutation, searched}
-use Rattle.naga_ir.specs.StatementViews.{cases_of}
-use Rattle.naga_ir.specs.StatementTree.{CaseTrees, no_cases, case}
-use Rattle.naga_ir.specs.declared.statement.SwitchCase.{SwitchCase}
-use Rattle.naga_ir.specs.declared.statement.SwitchValue.{SwitchValue}
+use Rattle.module_semantics.specs.IR.{CaseTrees, SwitchCase, SwitchValue, case, cases_of, no_cases}
 use Rattle.naga_ir.specs.declared.statement.SwitchValue.TheVariants as switch_value
 use Rattle.module_semantics.specs.acceptance.StatementsFit.{has_case_value, is_same_case_value}
 use Rattle.module_semantics.specs.acceptance.StatementsFit.{case_values_differ}

@@ -6,8 +6,7 @@ use Rattle.std.specs.Int.Signed.{lt_z}
 use Rattle.std.specs.Ordering.{int_eq}
 use Rattle.std.proofs.lemmas.Bool.{and_parts, eqb-true}
 use Rattle.std.proofs.lemmas.Bool.Decides.{Decides-int_eq}
-use Rattle.naga_ir.specs.StatementTree.{CaseTrees, no_cases, case}
-use Rattle.naga_ir.specs.declared.statement.SwitchValue.{SwitchValue}
+use Rattle.module_semantics.specs.IR.{CaseTrees, SwitchValue, case, no_cases}
 use Rattle.naga_ir.specs.declared.statement.SwitchValue.TheVariants as switch_value
 use Rattle.module_semantics.specs.acceptance.StatementsFit.{has_case_value, is_same_case_value}
 use Rattle.module_semantics.specs.acceptance.StatementsFit.{case_values_differ}

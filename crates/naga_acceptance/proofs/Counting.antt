@@ -5,22 +5,14 @@ use Rattle.std.proofs.Common.{zero-add, slice_index_or, slice_set, slice_get, So
 use Rattle.std.proofs.Common.{eq-eqb, ne_eqb}
 use Rattle.std.specs.List.{flat_map, enumerate_from}
 use Rattle.std.proofs.lemmas.List.Sums.{sum_by-cons}
-use Rattle.naga_ir.specs.declared.module.Function.{Function}
-use Rattle.naga_ir.specs.declared.module.EntryPoint.{EntryPoint}
+use Rattle.module_semantics.specs.IR.{EntryPoint, Expression, ExpressionInfo, Function, Statement, SwitchCase}
+use Rattle.module_semantics.specs.IR.{block_of, block_operands, block_size, cases_of, cases_operands, cases_size}
+use Rattle.module_semantics.specs.IR.{expression_operands, greatest_count, statement_operands, tree_of}
 use Rattle.std.specs.Option.{option_map}
-use Rattle.naga_ir.specs.declared.expression.Expression.{Expression}
-use Rattle.naga_ir.specs.declared.statement.Statement.{Statement}
-use Rattle.naga_ir.specs.declared.statement.SwitchCase.{SwitchCase}
-use Rattle.naga_ir.specs.StatementTree.{block_size, cases_size}
-use Rattle.naga_ir.specs.StatementViews.{tree_of, block_of, cases_of}
-use Rattle.naga_info.specs.declared.info.ExpressionInfo.{ExpressionInfo}
 use Rattle.std.proofs.lemmas.List.{drop_more}
-use Rattle.naga_ir.specs.Operands.{expression_operands, statement_operands, block_operands}
-use Rattle.naga_ir.specs.Operands.{cases_operands}
 use Rattle.naga_acceptance.specs.Counts.{with_use, with_uses, used_again, with_counts_from}
 use Rattle.naga_acceptance.specs.Counts.{use_count, without_uses, operand_handles, with_counts}
 use Rattle.naga_acceptance.specs.Counts.{all_with_counts, functions_of}
-use Rattle.naga_info.specs.UseCounts.{greatest_count}
 
 pub with_use_set : (es : List ExpressionInfo) (handle : ℕ) (d : ExpressionInfo) → handle < length es →
     slice_set es handle (used_again (slice_index_or es handle d)) ≡ with_use es handle

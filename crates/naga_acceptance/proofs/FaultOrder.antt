@@ -8,13 +8,8 @@ use Rattle.std.specs.Prelude.{IsTrue}
 use Rattle.std.specs.List.{enumerate_from}
 use Rattle.std.specs.Option.{IfSome, is_some, option_map, option_or}
 use Rattle.std.specs.Result.{result_err}
-use Rattle.naga_ir.specs.Operands.{expression_operands}
-use Rattle.naga_ir.specs.declared.expression.Expression.{Expression}
-use Rattle.naga_ir.specs.declared.module.EntryPoint.{EntryPoint}
-use Rattle.naga_ir.specs.declared.module.Function.{Function}
-use Rattle.naga_ir.specs.declared.module.Module.{Module}
-use Rattle.naga_info.specs.declared.info.ExpressionInfo.{ExpressionInfo}
-use Rattle.naga_info.specs.declared.info.ModuleInfo.{ModuleInfo}
+use Rattle.module_semantics.specs.IR.{EntryPoint, Expression, ExpressionInfo, Function, Module, ModuleInfo}
+use Rattle.module_semantics.specs.IR.{expression_operands}
 use Rattle.naga_acceptance.specs.Faults.{Fails, FaultIs, entry_names_fit}
 use Rattle.naga_acceptance.specs.FirstFaults.{IsDisagreement, IsFirst, IsFirstFault, IsOfTypes}
 use Rattle.naga_acceptance.specs.FirstFaults.{Named, Needed, Disagreeing, at, at_entry_point}

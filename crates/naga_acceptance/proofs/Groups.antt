@@ -13,13 +13,7 @@ use Rattle.std.specs.List.{flat_map, enumerate_from}
 use Rattle.std.specs.Option.{option_and_then, option_map, option_map_or, option_to_list}
 use Rattle.std.proofs.lemmas.List.{length-map}
 use Rattle.std.proofs.lemmas.Option.{slice_get_past, slice_get_within, slice_get-map}
-use Rattle.naga_ir.specs.declared.expression.Expression.{Expression}
-use Rattle.naga_ir.specs.declared.module.EntryPoint.{EntryPoint}
-use Rattle.naga_ir.specs.declared.module.Function.{Function}
-use Rattle.naga_ir.specs.declared.module.Module.{Module}
-use Rattle.naga_ir.specs.declared.types.Type_.{Type_}
-use Rattle.naga_info.specs.declared.info.ExpressionInfo.{ExpressionInfo}
-use Rattle.naga_info.specs.declared.info.ModuleInfo.{ModuleInfo}
+use Rattle.module_semantics.specs.IR.{EntryPoint, Expression, ExpressionInfo, Function, Module, ModuleInfo, Type_}
 use Rattle.module_semantics.specs.acceptance.AgreeingOperators.{Group, expression_use, uses_of}
 use Rattle.module_semantics.specs.acceptance.AgreeingOperators.{function_group, function_groups}
 use Rattle.module_semantics.specs.acceptance.AgreeingOperators.{further_groups_of, groups_of}

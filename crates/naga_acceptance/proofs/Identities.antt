@@ -1,8 +1,7 @@
 -- What tells a known type is something: it is told apart from nothing.
 use Rattle.std.proofs.Common.{◌≡◌, false, List, Some, None, ℕ, slice_get}
 use Rattle.std.specs.Str.{bytes_eq}
-use Rattle.naga_ir.specs.declared.types.Type_.{Type_}
-use Rattle.naga_info.specs.declared.info.TypeResolution.{TypeResolution}
+use Rattle.module_semantics.specs.IR.{TypeResolution, Type_}
 use Rattle.module_semantics.proofs.AlikeTypes.{identity_some}
 use Rattle.module_semantics.specs.acceptance.AgreeingOperators.{identity_at}
 

@@ -1,10 +1,7 @@
 -- A call that passes more or fewer values than there are arguments.
 use Rattle.std.proofs.Common.{◌≡◌, ◌≢◌, ℕ, suc, false, List, [], ◌∷◌, length, refl, ap}
 use Rattle.std.proofs.lemmas.Bool.{and_right}
-use Rattle.naga_ir.specs.declared.module.FunctionArgument.{FunctionArgument}
-use Rattle.naga_ir.specs.declared.types.Type_.{Type_}
-use Rattle.naga_info.specs.declared.info.TypeResolution.{TypeResolution}
-use Rattle.naga_info.specs.declared.info.TypeResolution.TheVariants.{Handle}
+use Rattle.module_semantics.specs.IR.{FunctionArgument, Handle, TypeResolution, Type_}
 use Rattle.module_semantics.specs.acceptance.StatementsFit.{are_passed, value_has_type}
 
 pub are_passed-unequal : (types : List Type_) (known : List TypeResolution) (wanted : List FunctionArgument)

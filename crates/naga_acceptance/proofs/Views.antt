@@ -6,9 +6,7 @@ use Rattle.std.specs.Option.{option_map, is_some}
 use Rattle.std.specs.Prelude.{if◌then◌else◌}
 use Rattle.std.specs.Str.{bytes_eq}
 use Rattle.std.specs.Bool.{nat_eq}
-use Rattle.naga_ir.specs.declared.types.Type_.{Type_}
-use Rattle.naga_info.specs.declared.info.TypeResolution.{TypeResolution}
-use Rattle.naga_info.specs.declared.info.TypeResolution.TheVariants.{Handle}
+use Rattle.module_semantics.specs.IR.{Handle, TypeResolution, Type_}
 use Rattle.module_semantics.specs.AlikeTypes.{type_key}
 use Rattle.module_semantics.specs.TypeIdentity.{identity, identity_at, identity_code, inner_code}
 use Rattle.module_semantics.specs.TypeIdentity.{StructAt, Itself}

@@ -8,15 +8,9 @@ use Rattle.std.specs.Option.{is_none, option_map_or}
 use Rattle.std.specs.List.{list_all}
 use Rattle.std.specs.Hash.DefaultHasher.{wrapping_add}
 use Rattle.std.proofs.lemmas.List.Folds.{list_all-append}
-use Rattle.naga_ir.specs.StatementTree.{StatementTree, simple, block, branch, switch, loop}
-use Rattle.naga_ir.specs.StatementTree.{BlockTree, no_statements, statement, CaseTrees, no_cases}
-use Rattle.naga_ir.specs.StatementTree.{case}
-use Rattle.naga_ir.specs.StatementViews.{tree_of, block_of, cases_of}
-use Rattle.naga_ir.specs.declared.module.Function.{Function}
-use Rattle.naga_ir.specs.declared.module.Module.{Module}
-use Rattle.naga_ir.specs.declared.statement.Statement.{Statement}
-use Rattle.naga_ir.specs.declared.statement.SwitchCase.{SwitchCase}
-use Rattle.naga_info.specs.declared.info.TypeResolution.{TypeResolution}
+use Rattle.module_semantics.specs.IR.{BlockTree, CaseTrees, Function, Module, Statement, StatementTree, SwitchCase}
+use Rattle.module_semantics.specs.IR.{TypeResolution, block, block_of, branch, case, cases_of, loop, no_cases}
+use Rattle.module_semantics.specs.IR.{no_statements, simple, statement, switch, tree_of}
 use Rattle.module_semantics.specs.acceptance.Numbers.{case_value_fits_32_bits}
 use Rattle.module_semantics.specs.acceptance.Ranges.{block_in_range, cases_in_range, is_below}
 use Rattle.module_semantics.specs.acceptance.Ranges.{statement_in_range}

@@ -7,8 +7,7 @@ use Rattle.std.specs.Prelude.{true, slice_index_or}
 use Rattle.std.specs.Prelude.{false, ◌&&◌, ◌||◌, if◌then◌else◌, Option, Some, None, nat_lt, List}
 use Rattle.std.specs.Prelude.{[], ◌∷◌, length, slice_index}
 use Rattle.std.specs.Int.Signed.{lt_z}
-use Rattle.naga_ir.specs.StatementTree.{CaseTrees, no_cases, case}
-use Rattle.naga_ir.specs.declared.statement.SwitchValue.{SwitchValue}
+use Rattle.module_semantics.specs.IR.{CaseTrees, SwitchValue, case, no_cases}
 use Rattle.naga_ir.specs.declared.statement.SwitchValue.TheVariants as switch_value
 use Rattle.naga_acceptance.specs.declared.case_value_numbers.TheConstants.{CELLS}
 

@@ -2,11 +2,8 @@
 use Rattle.std.specs.Prelude.{ℕ, ◌+◌, ◌==◌, min, List, [], ◌∷◌, ◌++◌, map, count_by}
 use Rattle.std.specs.List.{flat_map}
 use Prim.Native.Nat.{zero, suc}
-use Rattle.naga_ir.specs.declared.module.Function.{Function}
-use Rattle.naga_ir.specs.declared.module.EntryPoint.{EntryPoint}
-use Rattle.naga_info.specs.UseCounts.{greatest_count}
-use Rattle.naga_info.specs.declared.info.ExpressionInfo.{ExpressionInfo}
-use Rattle.naga_ir.specs.Operands.{expression_operands, block_operands}
+use Rattle.module_semantics.specs.IR.{EntryPoint, ExpressionInfo, Function, block_operands, expression_operands}
+use Rattle.module_semantics.specs.IR.{greatest_count}
 
 -- the operand positions of a function's expressions and statements
 abbrev pub operand_handles : Function → List ℕ

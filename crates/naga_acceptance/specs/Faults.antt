@@ -10,14 +10,8 @@
 use Rattle.std.specs.Prelude.{ℕ, suc, ◌+◌, ◌%◌, ◌^◌, ◌≡◌, Bool, true, false, ◌&&◌, ◌==◌, List, []}
 use Rattle.std.specs.Prelude.{length, map, slice_get, Option, Some, None}
 use Rattle.std.specs.Option.{option_map, option_map_or}
-use Rattle.naga_ir.specs.Operands.{expression_operands}
-use Rattle.naga_ir.specs.declared.expression.Expression.{Expression}
-use Rattle.naga_ir.specs.declared.module.EntryPoint.{EntryPoint}
-use Rattle.naga_ir.specs.declared.module.Function.{Function}
-use Rattle.naga_ir.specs.declared.module.Module.{Module}
-use Rattle.naga_info.specs.declared.info.ExpressionInfo.{ExpressionInfo}
-use Rattle.naga_info.specs.declared.info.ModuleInfo.{ModuleInfo}
-use Rattle.naga_info.specs.declared.info.TypeResolution.{TypeResolution}
+use Rattle.module_semantics.specs.IR.{EntryPoint, Expression, ExpressionInfo, Function, Module, ModuleInfo}
+use Rattle.module_semantics.specs.IR.{TypeResolution, expression_operands}
 use Rattle.naga_acceptance.specs.TextOrder.{PlacedStatement, is_in_range, is_sound, text_order}
 use Rattle.naga_acceptance.specs.Uses.{earlier_uses}
 use Rattle.naga_acceptance.specs.declared.faults.Fault.{Fault}

@@ -10,11 +10,7 @@ use Rattle.std.specs.Prelude.{ℕ, zero, suc, ◌-◌, false, nat_lt, if◌then�
 use Rattle.std.specs.Prelude.{Option, Some, None}
 use Rattle.std.specs.List.{enumerate_from}
 use Rattle.std.specs.Option.{option_and_then, option_map, option_map_or, option_or}
-use Rattle.naga_ir.specs.declared.expression.Expression.{Expression}
-use Rattle.naga_ir.specs.declared.module.Module.{Module}
-use Rattle.naga_ir.specs.declared.types.Type_.{Type_}
-use Rattle.naga_info.specs.declared.info.ModuleInfo.{ModuleInfo}
-use Rattle.naga_info.specs.declared.info.TypeResolution.{TypeResolution}
+use Rattle.module_semantics.specs.IR.{Expression, Module, ModuleInfo, TypeResolution, Type_}
 use Rattle.naga_acceptance.specs.Faults.{site_of}
 use Rattle.naga_acceptance.specs.Searching.{first_faulty}
 use Rattle.naga_acceptance.specs.Uses.{is_same_operator, use_in}

@@ -1,8 +1,7 @@
 -- What the code's short forms of types stand for.
 use Rattle.std.specs.Prelude.{List, map}
 use Rattle.naga_ir.specs.declared.types.TypeInner.TheVariants as inner
-use Rattle.naga_info.specs.declared.info.TypeResolution.{TypeResolution}
-use Rattle.naga_info.specs.declared.info.TypeResolution.TheVariants.{Handle, Value}
+use Rattle.module_semantics.specs.IR.{Handle, TypeResolution, Value}
 use Rattle.naga_acceptance.specs.declared.parts.InferredType.{InferredType}
 use Rattle.naga_acceptance.specs.declared.parts.InferredType.TheVariants as inferred_type
 use Rattle.naga_acceptance.specs.declared.parts.Known.{Known}

@@ -1,10 +1,7 @@
 -- What tells operators, by the code's short forms.
 use Rattle.std.specs.Prelude.{ℕ, Bool, true, false, List, ◌∷◌, Option, None, if◌then◌else◌}
-use Rattle.naga_ir.specs.Kinds.{kind_of}
-use Rattle.naga_ir.specs.declared.expression.Expression.{Expression}
-use Rattle.naga_ir.specs.declared.kind.ExpressionKind.{ExpressionKind}
+use Rattle.module_semantics.specs.IR.{Expression, ExpressionKind, Type_, kind_of}
 use Rattle.naga_ir.specs.declared.kind.ExpressionKind.TheVariants.{Pure}
-use Rattle.naga_ir.specs.declared.types.Type_.{Type_}
 use Rattle.naga_acceptance.specs.KnownTypes.{inferred}
 use Rattle.naga_acceptance.specs.Views.{numbers}
 use Rattle.naga_acceptance.specs.declared.operator_keys.Key.{Key}

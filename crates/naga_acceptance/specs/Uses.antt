@@ -12,8 +12,7 @@ use Rattle.std.specs.Prelude.{slice_get, slice_index_or, nat_lt, nat_le, â—Œ==â—
 use Rattle.std.specs.List.{filter}
 use Rattle.std.specs.Option.{option_map_or, option_and_then, option_to_list, is_some}
 use Rattle.std.specs.Str.{bytes_eq}
-use Rattle.naga_ir.specs.Operands.{expression_operands}
-use Rattle.naga_ir.specs.declared.types.Type_.{Type_}
+use Rattle.module_semantics.specs.IR.{Type_, expression_operands}
 use Rattle.naga_acceptance.specs.KnownTypes.{known_types}
 use Rattle.naga_acceptance.specs.OperatorKeys.{key}
 use Rattle.naga_acceptance.specs.declared.agreeing.Expressions.{Expressions}

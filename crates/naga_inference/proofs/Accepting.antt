@@ -3,8 +3,7 @@
 -- Throughout, m is a module, found the info that the passes find, and other one that follows the
 -- rules.
 use Rattle.std.proofs.Common.{◌≡◌, true, [], subst}
-use Rattle.naga_ir.specs.declared.module.Module.{Module}
-use Rattle.naga_info.specs.declared.info.ModuleInfo.{ModuleInfo}
+use Rattle.module_semantics.specs.IR.{Module, ModuleInfo}
 use Rattle.module_semantics.specs.acceptance.Accepted.{is_accepted}
 use Rattle.naga_inference.specs.Following.{FollowsRules, HasSameType, IsSameType}
 use Rattle.naga_inference.specs.Inferred.{IsTyped}

@@ -1,9 +1,7 @@
 -- Which expression is the first without a type, by what the passes find.
 use Rattle.std.proofs.Common.{◌≡◌, ℕ, List, Some, ap}
 use Rattle.std.specs.Prelude.{Ok, Err}
-use Rattle.naga_ir.specs.declared.module.Module.{Module}
-use Rattle.naga_info.specs.declared.info.ExpressionInfo.{ExpressionInfo}
-use Rattle.naga_info.specs.declared.info.TypeResolution.{TypeResolution}
+use Rattle.module_semantics.specs.IR.{ExpressionInfo, Module, TypeResolution}
 use Rattle.naga_inference.specs.Inferred.{entry_points_infos, first_of, first_untyped}
 use Rattle.naga_inference.specs.Inferred.{functions_infos, of_entry_points, of_functions, of_own}
 use Rattle.naga_inference.specs.Inferred.{own_types}

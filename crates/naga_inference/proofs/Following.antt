@@ -8,14 +8,8 @@ use Rattle.std.proofs.Common.{ap, ◌∙◌, subst}
 use Rattle.std.specs.Prelude.{Result, Ok, Err, ok_or}
 use Rattle.std.specs.List.{enumerate_from}
 use Rattle.std.specs.Option.{option_map}
-use Rattle.naga_ir.specs.declared.expression.Expression.{Expression}
-use Rattle.naga_ir.specs.declared.module.EntryPoint.{EntryPoint}
-use Rattle.naga_ir.specs.declared.module.Function.{Function}
-use Rattle.naga_ir.specs.declared.module.Module.{Module}
-use Rattle.naga_ir.specs.declared.types.Type_.{Type_}
-use Rattle.naga_info.specs.declared.info.ExpressionInfo.{ExpressionInfo}
-use Rattle.naga_info.specs.declared.info.ModuleInfo.{ModuleInfo}
-use Rattle.naga_info.specs.declared.info.TypeResolution.{TypeResolution}
+use Rattle.module_semantics.specs.IR.{EntryPoint, Expression, ExpressionInfo, Function, Module, ModuleInfo}
+use Rattle.module_semantics.specs.IR.{TypeResolution, Type_}
 use Rattle.naga_acceptance.specs.declared.faults.FaultPosition.{FaultPosition}
 use Rattle.naga_inference.specs.Following.{FollowsRules, FunctionFollows, FunctionsFollow}
 use Rattle.naga_inference.specs.Following.{HasSameType, IsSameType}

@@ -1,7 +1,6 @@
 -- What is told of a module that has no info by the rules that is accepted.
 use Rattle.std.proofs.Common.{◌≡◌, ◌∙◌, true, false, sym}
-use Rattle.naga_ir.specs.declared.module.Module.{Module}
-use Rattle.naga_info.specs.declared.info.ModuleInfo.{ModuleInfo}
+use Rattle.module_semantics.specs.IR.{Module, ModuleInfo}
 use Rattle.module_semantics.specs.acceptance.Accepted.{is_accepted}
 use Rattle.naga_inference.specs.Following.{NoneIsAccepted}
 use Rattle.naga_inference.specs.Inferred.{IsTyped}

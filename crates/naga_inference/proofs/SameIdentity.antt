@@ -7,12 +7,8 @@ use Rattle.std.proofs.Common.{◌≡◌, ℕ, false, List, refl, sym, ap, ◌∙
 use Rattle.std.proofs.Common.{Option, Some, None, slice_get, if◌then◌else◌, inl, inr}
 use Rattle.std.specs.Prelude.{unwrap_or}
 use Rattle.std.specs.Option.{option_map}
-use Rattle.naga_ir.specs.declared.types.Type_.{Type_}
-use Rattle.naga_ir.specs.declared.types.TypeInner.{TypeInner}
+use Rattle.module_semantics.specs.IR.{Handle, TypeInner, TypeResolution, Type_, Value, inner_of}
 use Rattle.naga_ir.specs.declared.types.TypeInner.TheVariants as inner
-use Rattle.naga_info.specs.Resolution.{inner_of}
-use Rattle.naga_info.specs.declared.info.TypeResolution.{TypeResolution}
-use Rattle.naga_info.specs.declared.info.TypeResolution.TheVariants.{Handle, Value}
 use Rattle.naga_spelling.specs.Spelling.{is_struct}
 use Rattle.module_semantics.specs.AlikeTypes.{found_key_by, handle_key, inner_key, inner_key_by}
 use Rattle.module_semantics.specs.AlikeTypes.{key_within, named_key_by, type_identity}

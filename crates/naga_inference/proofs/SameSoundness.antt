@@ -8,21 +8,11 @@ use Rattle.std.proofs.Common.{refl, ap, ◌∙◌, map, slice_get}
 use Rattle.std.specs.List.{enumerate_from, flat_map, list_all}
 use Rattle.std.specs.Option.{option_and_then, option_map, option_map_or, option_to_list}
 use Rattle.std.specs.Str.{bytes_eq}
-use Rattle.naga_ir.specs.Operands.{expression_operands}
-use Rattle.naga_ir.specs.StatementTree.{SimpleStatement, return, store, atomic, call}
-use Rattle.naga_ir.specs.StatementTree.{StatementTree, simple, block, branch, switch, loop}
-use Rattle.naga_ir.specs.StatementTree.{BlockTree, no_statements, statement, CaseTrees, no_cases}
-use Rattle.naga_ir.specs.StatementTree.{case}
-use Rattle.naga_ir.specs.StatementTree.{cooperative_store}
-use Rattle.naga_ir.specs.declared.expression.Expression.{Expression}
+use Rattle.module_semantics.specs.IR.{BlockTree, CaseTrees, Expression, Function, FunctionArgument, FunctionResult}
+use Rattle.module_semantics.specs.IR.{Handle, Module, SimpleStatement, StatementTree, TypeInner, TypeResolution}
+use Rattle.module_semantics.specs.IR.{atomic, block, branch, call, case, cooperative_store, expression_operands, loop}
+use Rattle.module_semantics.specs.IR.{no_cases, no_statements, return, simple, statement, store, switch}
 use Rattle.naga_ir.specs.declared.expression.Expression.TheVariants as expression
-use Rattle.naga_ir.specs.declared.module.Function.{Function}
-use Rattle.naga_ir.specs.declared.module.FunctionArgument.{FunctionArgument}
-use Rattle.naga_ir.specs.declared.module.FunctionResult.{FunctionResult}
-use Rattle.naga_ir.specs.declared.module.Module.{Module}
-use Rattle.naga_ir.specs.declared.types.TypeInner.{TypeInner}
-use Rattle.naga_info.specs.declared.info.TypeResolution.{TypeResolution}
-use Rattle.naga_info.specs.declared.info.TypeResolution.TheVariants.{Handle}
 use Rattle.module_semantics.specs.AlikeTypes.{type_identity}
 use Rattle.module_semantics.specs.TypeParts.{has_computed_parts, is_part_number, known_inner}
 use Rattle.module_semantics.specs.TypeParts.{pointee_type, points_to_atomic}

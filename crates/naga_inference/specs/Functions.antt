@@ -11,16 +11,12 @@ use Rattle.indexmap.specs.IndexMap.{get}
 use Rattle.naga_ir.specs.contracts.types.PredeclaredTypePartialEq.TheImpl.{
   eq-value as predeclared-eq-value,
 }
-use Rattle.naga_ir.specs.declared.module.SpecialTypes.{SpecialTypes}
-use Rattle.naga_ir.specs.declared.operators.MathFunction.{MathFunction}
+use Rattle.module_semantics.specs.IR.{Handle, MathFunction, PredeclaredType, SpecialTypes, TypeInner, TypeResolution}
+use Rattle.module_semantics.specs.IR.{Value}
 use Rattle.naga_ir.specs.declared.operators.MathFunction.TheVariants as math
-use Rattle.naga_ir.specs.declared.types.PredeclaredType.{PredeclaredType}
 use Rattle.naga_ir.specs.declared.types.PredeclaredType.TheVariants as predeclared
-use Rattle.naga_ir.specs.declared.types.TypeInner.{TypeInner}
 use Rattle.naga_ir.specs.declared.types.TypeInner.TheVariants as inner
 use Rattle.naga_ir.specs.declared.types.VectorSize.TheVariants as size
-use Rattle.naga_info.specs.declared.info.TypeResolution.{TypeResolution}
-use Rattle.naga_info.specs.declared.info.TypeResolution.TheVariants.{Handle, Value}
 use Rattle.naga_inference.specs.declared.functions.MathAnswer.{MathAnswer}
 use Rattle.naga_inference.specs.declared.functions.MathAnswer.TheVariants.{OfOperand, OfType}
 use Rattle.naga_inference.specs.declared.functions.MathAnswer.TheVariants.{Nothing}

@@ -12,13 +12,8 @@ use Rattle.std.specs.Prelude.{Bool, true, false, Result, Ok}
 use Rattle.std.specs.List.{enumerate_from}
 use Rattle.std.specs.Option.{option_map, option_or}
 use Rattle.std.specs.Result.{result_err, result_map_both}
-use Rattle.naga_ir.specs.declared.expression.Expression.{Expression}
-use Rattle.naga_ir.specs.declared.module.EntryPoint.{EntryPoint}
-use Rattle.naga_ir.specs.declared.module.Function.{Function}
-use Rattle.naga_ir.specs.declared.module.Module.{Module}
-use Rattle.naga_info.specs.declared.info.ExpressionInfo.{ExpressionInfo}
-use Rattle.naga_info.specs.declared.info.ModuleInfo.{ModuleInfo}
-use Rattle.naga_info.specs.declared.info.TypeResolution.{TypeResolution}
+use Rattle.module_semantics.specs.IR.{EntryPoint, Expression, ExpressionInfo, Function, Module, ModuleInfo}
+use Rattle.module_semantics.specs.IR.{TypeResolution}
 use Rattle.module_semantics.specs.acceptance.ExpressionTypes.{ExpectedType, LikeThis, Anything}
 use Rattle.module_semantics.specs.acceptance.ExpressionTypes.{Nothing, expected_type}
 use Rattle.naga_acceptance.specs.FirstFaults.{IsFirstFault}

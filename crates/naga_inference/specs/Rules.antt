@@ -8,37 +8,21 @@
 -- vector has, h a handle, and gathers says whether a sample gathers.
 use Rattle.std.specs.Prelude.{ℕ, Bool, true, false, List, Option, Some, None, slice_get}
 use Rattle.std.specs.Option.{option_map, option_and_then, is_some}
-use Rattle.naga_ir.specs.Literals.{scalar_of}
-use Rattle.naga_ir.specs.declared.expression.Expression.{Expression}
+use Rattle.module_semantics.specs.IR.{BinaryOperator, CooperativeRole, CooperativeSize, Expression, Handle, ImageClass}
+use Rattle.module_semantics.specs.IR.{ImageDimension, ImageQuery, MathFunction, Module, RelationalFunction, Scalar}
+use Rattle.module_semantics.specs.IR.{ScalarKind, StorageFormat, TypeInner, TypeResolution, Type_, Value, VectorSize}
+use Rattle.module_semantics.specs.IR.{inner_of, scalar_of}
 use Rattle.naga_ir.specs.declared.expression.Expression.TheVariants as expression
-use Rattle.naga_ir.specs.declared.expression.ImageQuery.{ImageQuery}
 use Rattle.naga_ir.specs.declared.expression.ImageQuery.TheVariants as query
-use Rattle.naga_ir.specs.declared.image.ImageClass.{ImageClass}
 use Rattle.naga_ir.specs.declared.image.ImageClass.TheVariants as class
-use Rattle.naga_ir.specs.declared.image.ImageDimension.{ImageDimension}
 use Rattle.naga_ir.specs.declared.image.ImageDimension.TheVariants as dimension
-use Rattle.naga_ir.specs.declared.image.StorageFormat.{StorageFormat}
 use Rattle.naga_ir.specs.declared.image.StorageFormat.TheVariants as format
-use Rattle.naga_ir.specs.declared.module.Module.{Module}
-use Rattle.naga_ir.specs.declared.operators.BinaryOperator.{BinaryOperator}
 use Rattle.naga_ir.specs.declared.operators.BinaryOperator.TheVariants as binary
-use Rattle.naga_ir.specs.declared.operators.MathFunction.{MathFunction}
 use Rattle.naga_ir.specs.declared.operators.MathFunction.TheVariants as math
-use Rattle.naga_ir.specs.declared.operators.RelationalFunction.{RelationalFunction}
 use Rattle.naga_ir.specs.declared.operators.RelationalFunction.TheVariants as relational
-use Rattle.naga_ir.specs.declared.types.CooperativeRole.{CooperativeRole}
-use Rattle.naga_ir.specs.declared.types.CooperativeSize.{CooperativeSize}
-use Rattle.naga_ir.specs.declared.types.Scalar.{Scalar}
-use Rattle.naga_ir.specs.declared.types.ScalarKind.{ScalarKind}
 use Rattle.naga_ir.specs.declared.types.ScalarKind.TheVariants as kind
-use Rattle.naga_ir.specs.declared.types.Type_.{Type_}
-use Rattle.naga_ir.specs.declared.types.TypeInner.{TypeInner}
 use Rattle.naga_ir.specs.declared.types.TypeInner.TheVariants as inner
-use Rattle.naga_ir.specs.declared.types.VectorSize.{VectorSize}
 use Rattle.naga_ir.specs.declared.types.VectorSize.TheVariants as size
-use Rattle.naga_info.specs.Resolution.{inner_of}
-use Rattle.naga_info.specs.declared.info.TypeResolution.{TypeResolution}
-use Rattle.naga_info.specs.declared.info.TypeResolution.TheVariants.{Handle, Value}
 use Rattle.module_semantics.specs.Conversions.{conversion_target}
 use Rattle.module_semantics.specs.ExpressionOperators.{pointee_scalar}
 use Rattle.module_semantics.specs.TypeParts.{known_inner}

@@ -4,13 +4,9 @@
 -- by itself, s a scalar and h a handle.
 use Rattle.std.specs.Prelude.{ℕ, List, Option, Some, None, slice_get}
 use Rattle.std.specs.Option.{option_map, option_and_then}
-use Rattle.naga_ir.specs.Literals.{scalar_of}
-use Rattle.naga_ir.specs.declared.types.Scalar.{Scalar}
+use Rattle.module_semantics.specs.IR.{Handle, Scalar, TypeInner, TypeResolution, Value, scalar_of}
 use Rattle.naga_ir.specs.declared.types.ScalarKind.TheVariants as kind
-use Rattle.naga_ir.specs.declared.types.TypeInner.{TypeInner}
 use Rattle.naga_ir.specs.declared.types.TypeInner.TheVariants as inner
-use Rattle.naga_info.specs.declared.info.TypeResolution.{TypeResolution}
-use Rattle.naga_info.specs.declared.info.TypeResolution.TheVariants.{Handle, Value}
 
 abbrev pub f32_scalar : Scalar
 f32_scalar = scalar_of kind.Float 4

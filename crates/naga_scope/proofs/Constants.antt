@@ -10,14 +10,10 @@ use Rattle.std.proofs.lemmas.List.{get_or_past, get_or-set_other, length-set}
 use Rattle.std.proofs.lemmas.Bool.{ltb-true, ltb-false}
 use Rattle.std.proofs.lemmas.Grind.{get_or-set_at}
 use Rattle.std.proofs.lemmas.Option.{slice_get_past}
-use Rattle.naga_ir.specs.Operands.{expression_operands}
+use Rattle.module_semantics.specs.IR.{ExpressionInfo, ExpressionKind, Module, ModuleInfo, expression_operands}
 use Rattle.naga_ir.specs.declared.expression.Expression as ir
-use Rattle.naga_ir.specs.declared.kind.ExpressionKind.{ExpressionKind}
 use Rattle.naga_ir.specs.declared.kind.ExpressionKind.TheVariants as kind
 use Rattle.naga_ir.specs.declared.module.Function as ir_function
-use Rattle.naga_ir.specs.declared.module.Module.{Module}
-use Rattle.naga_info.specs.declared.info.ExpressionInfo.{ExpressionInfo}
-use Rattle.naga_info.specs.declared.info.ModuleInfo.{ModuleInfo}
 use Rattle.shader_runs.specs.Program.{Function, expression_of, operands_of, is_pure}
 use Rattle.shader_runs.specs.Scope.{all_constant, constant_test, is_constant_below}
 use Rattle.shader_runs.specs.Scope.{start_availability, at_start}

@@ -9,8 +9,7 @@ use Rattle.std.proofs.lemmas.List.{length-take}
 use Rattle.naga_ir.specs.declared.expression.Expression as ir
 use Rattle.naga_ir.specs.declared.expression.Expression.TheVariants as expression
 use Rattle.naga_ir.specs.declared.module.Function as ir_function
-use Rattle.naga_ir.specs.declared.module.Module.{Module}
-use Rattle.naga_info.specs.declared.info.ExpressionInfo.{ExpressionInfo}
+use Rattle.module_semantics.specs.IR.{ExpressionInfo, Module, ModuleInfo}
 use Rattle.shader_runs.specs.Program.{Expression, Function, Load, local_count}
 use Rattle.shader_runs.specs.Scope.{Availability, Handles, usable_as, usable_if, at_start}
 use Rattle.shader_runs.specs.Scope.{before_local, is_present}
@@ -23,7 +22,6 @@ use Rattle.module_semantics.specs.OperatorTable.{Operator as TableOperator, Atom
 use Rattle.module_semantics.specs.ExpressionContexts.{declared, types_known}
 use Rattle.naga_form.proofs.ModuleIndices.{expression_at, no_expression_at}
 use Rattle.naga_form.proofs.statements.WellFormed.{applied_any}
-use Rattle.naga_info.specs.declared.info.ModuleInfo.{ModuleInfo}
 use Rattle.shader_runs.specs.Value.{Selector}
 use Rattle.naga_scope.specs.Availabilities.{names_earlier, is_earlier}
 use Rattle.naga_scope.specs.ScopeChecks.{check_first, unless}

@@ -8,10 +8,8 @@ use Rattle.module_semantics.specs.OperatorTable.{collective_word, texel_change_w
 use Rattle.module_semantics.specs.StatementForms.{block_has_forms, cases_have_forms, simple_has_form}
 use Rattle.module_semantics.specs.StatementForms.{statement_has_form}
 use Rattle.module_semantics.specs.StatementShapes.{change_of}
-use Rattle.naga_ir.specs.StatementTree.{SimpleStatement, image_atomic, ray_query}
-use Rattle.naga_ir.specs.StatementTree.{subgroup_collective_operation, StatementTree, simple}
-use Rattle.naga_ir.specs.StatementTree.{switch, BlockTree, CaseTrees, no_cases, case}
-use Rattle.naga_ir.specs.StatementTree.{has_no_statements}
+use Rattle.module_semantics.specs.IR.{BlockTree, CaseTrees, SimpleStatement, StatementTree, case, has_no_statements}
+use Rattle.module_semantics.specs.IR.{image_atomic, no_cases, ray_query, simple, subgroup_collective_operation, switch}
 use Rattle.naga_scope.proofs.InOrder.{all_of, gathered}
 use Rattle.naga_scope.specs.UnsupportedStatements.{LacksForm, SomeCaseFalls, falls_unsupported}
 use Rattle.naga_scope.specs.UnsupportedStatements.{first_unsupported, unsupported_case}

@@ -9,9 +9,8 @@ use Rattle.module_semantics.proofs.FunctionNumbers.{after_left, in_append, in_le
 use Rattle.module_semantics.specs.ExpressionContexts.{declared, types_known}
 use Rattle.module_semantics.specs.ExpressionOperators.{ExpressionContext}
 use Rattle.module_semantics.specs.FunctionShapes.{cases_shape}
-use Rattle.naga_ir.specs.InOrder.{case_trees, trees_in, trees_inside}
-use Rattle.naga_ir.specs.StatementTree.{StatementTree, simple, block, branch, switch, loop, BlockTree}
-use Rattle.naga_ir.specs.StatementTree.{no_statements, statement, CaseTrees, no_cases, case}
+use Rattle.module_semantics.specs.IR.{BlockTree, CaseTrees, StatementTree, block, branch, case, case_trees, loop}
+use Rattle.module_semantics.specs.IR.{no_cases, no_statements, simple, statement, switch, trees_in, trees_inside}
 use Rattle.naga_scope.proofs.NothingLacks.{EachLacksNothing, block_none, own_formed, statement_none}
 use Rattle.naga_scope.proofs.StandingCounts.{block_count, statement_count}
 use Rattle.naga_scope.specs.FirstLack.{WrittenFunction, block_in, block_lack, break_lack, case_lack, inside_lack}

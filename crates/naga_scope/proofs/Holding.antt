@@ -8,11 +8,9 @@ use Rattle.std.specs.Option.{option_to_list}
 use Rattle.module_semantics.specs.ExpressionOperators.{ExpressionContext, is_atomic_pointer}
 use Rattle.module_semantics.specs.StatementShapes.{simple_shape, store_shape}
 use Rattle.module_semantics.specs.Written.{simple_handles}
-use Rattle.naga_ir.specs.Operands.{simple_operands, simple_result}
-use Rattle.naga_ir.specs.StatementTree.{SimpleStatement, emit, return, simple, store}
-use Rattle.naga_ir.specs.StatementViews.{tree_of}
+use Rattle.module_semantics.specs.IR.{SimpleStatement, Statement, emit, return, simple, simple_operands, simple_result}
+use Rattle.module_semantics.specs.IR.{store, tree_of}
 use Rattle.naga_ir.specs.declared.statement.Range.{Range}
-use Rattle.naga_ir.specs.declared.statement.Statement.{Statement}
 use Rattle.naga_ir.specs.declared.statement.Statement.TheVariants as statement_variant
 use Rattle.naga_scope.specs.Changes.{simple_changes}
 use Rattle.naga_scope.specs.ScopeChecks.{Checked, check_own, check_result, check_use, check_uses, own_named}

@@ -16,15 +16,11 @@ use Rattle.naga_ir.proofs.Listed.{drop_first}
 use Rattle.module_semantics.specs.ExpressionLabels.{block_labels, cases_labels, labels_in}
 use Rattle.module_semantics.specs.Written.{block_lets, block_handles, cases_lets, cases_handles}
 use Rattle.module_semantics.specs.Written.{function_handles, statement_lets, statement_handles}
-use Rattle.naga_ir.specs.StatementTree.{SimpleStatement, emit, StatementTree, simple, block, branch}
-use Rattle.naga_ir.specs.StatementTree.{switch, loop, BlockTree, no_statements, statement}
-use Rattle.naga_ir.specs.StatementTree.{CaseTrees, no_cases, case}
-use Rattle.naga_ir.specs.StatementViews.{tree_of}
-use Rattle.naga_ir.specs.declared.module.Function.{Function}
-use Rattle.naga_ir.specs.declared.statement.Statement.{Statement}
-use Rattle.naga_ir.specs.declared.statement.SwitchValue.{SwitchValue}
+use Rattle.module_semantics.specs.IR.{BlockTree, CaseTrees, Function, SimpleStatement, Statement, StatementTree}
+use Rattle.module_semantics.specs.IR.{SwitchValue, block, branch, case, case_trees, emit, loop, no_cases}
+use Rattle.module_semantics.specs.IR.{no_statements, simple, statement, switch, tree_of, trees_in, trees_inside}
+use Rattle.module_semantics.specs.IR.{trees_of}
 use Rattle.naga_scope.specs.Changes.{block_changes, cases_changes, statement_changes}
-use Rattle.naga_ir.specs.InOrder.{case_trees, trees_in, trees_inside, trees_of}
 use Rattle.naga_scope.specs.InOrder.{own_changes, own_labels, own_lets, own_handles, handles_with}
 use Rattle.naga_tables.specs.Marks.{is_one_of}
 

@@ -13,8 +13,7 @@ use Rattle.std.specs.Option.{option_map_or}
 use Rattle.std.specs.Prelude.{IsFalse, IsSomeAnd, if◌then◌else◌}
 use Rattle.module_semantics.specs.Premises.{OperandsStandBefore}
 use Rattle.module_semantics.specs.Written.{IsWritten, OperandOf, Start}
-use Rattle.naga_ir.specs.Operands.{expression_operands}
-use Rattle.naga_ir.specs.declared.expression.Expression.{Expression}
+use Rattle.module_semantics.specs.IR.{Expression, expression_operands}
 use Rattle.naga_scope.specs.Lacks.{AreLowestLacks, lower, lowest_lack, lowest_of, lowest_over, lowest_within}
 use Rattle.shader_runs.specs.Premises.{AllBelow}
 

@@ -13,11 +13,9 @@ use Rattle.module_semantics.specs.ExpressionContexts.{declared, types_known}
 use Rattle.module_semantics.specs.ExpressionOperators.{ExpressionContext}
 use Rattle.module_semantics.specs.FunctionShapes.{cases_shape}
 use Rattle.module_semantics.specs.Undeclared.{is_spellable}
-use Rattle.naga_info.specs.declared.info.TypeResolution.TheVariants.{Handle}
-use Rattle.naga_ir.specs.InOrder.{case_trees, trees_in, trees_inside}
-use Rattle.naga_ir.specs.StatementTree.{StatementTree, simple, block, branch, switch, loop, BlockTree}
-use Rattle.naga_ir.specs.StatementTree.{no_statements, statement, CaseTrees, no_cases, case}
-use Rattle.naga_ir.specs.declared.module.LocalVariable.{LocalVariable}
+use Rattle.module_semantics.specs.IR.{BlockTree, CaseTrees, Handle, LocalVariable, StatementTree, block, branch, case}
+use Rattle.module_semantics.specs.IR.{case_trees, loop, no_cases, no_statements, simple, statement, switch, trees_in}
+use Rattle.module_semantics.specs.IR.{trees_inside}
 use Rattle.naga_scope.proofs.ScopeChecks.{break_ok, first_ok, own_fits, own_ok, simple_fits}
 use Rattle.naga_scope.specs.FirstLack.{WrittenFunction, block_in, block_lack, break_lack, case_lack}
 use Rattle.naga_scope.specs.FirstLack.{expression_lack, form_lack, inside_lack, local_lack, locals_lack}

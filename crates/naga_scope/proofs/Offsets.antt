@@ -16,15 +16,11 @@ use Rattle.module_semantics.specs.OperatorTable.{Operator, Splat}
 use Rattle.module_semantics.specs.Premises.{OperandsStandBefore}
 use Rattle.module_semantics.specs.ExpressionContexts.{declared, types_known}
 use Rattle.naga_form.proofs.ModuleIndices.{expression_at, no_expression_at}
-use Rattle.naga_info.specs.declared.info.ExpressionInfo.{ExpressionInfo}
-use Rattle.naga_info.specs.declared.info.ModuleInfo.{ModuleInfo}
-use Rattle.naga_info.specs.declared.info.TypeResolution.TheVariants.{Handle}
-use Rattle.naga_ir.specs.Operands.{expression_operands, level_operands}
+use Rattle.module_semantics.specs.IR.{ExpressionInfo, Handle, Module, ModuleInfo, expression_operands, kind_of}
+use Rattle.module_semantics.specs.IR.{level_operands}
 use Rattle.naga_ir.specs.declared.expression.Expression as ir
 use Rattle.naga_ir.specs.declared.expression.Expression.TheVariants as expression
 use Rattle.naga_ir.specs.declared.module.Function as ir_function
-use Rattle.naga_ir.specs.declared.module.Module.{Module}
-use Rattle.naga_ir.specs.Kinds.{kind_of}
 use Rattle.naga_ir.specs.declared.kind.ExpressionKind.TheVariants as kind
 use Rattle.naga_scope.proofs.Constants.{any_limit, constant_to, counted, one_more}
 use Rattle.naga_scope.proofs.ShapeKinds.{pure_at, usable_is}

@@ -7,15 +7,9 @@ use Rattle.std.proofs.lemmas.Option.{same_Some}
 use Rattle.std.specs.Option.{option_and_then, option_map, option_map_or, option_or, option_to_list}
 use Rattle.std.specs.Prelude.{Err, IfErr, IfOk, Ok, Result, if◌then◌else◌, slice_get}
 use Rattle.naga_ir.specs.declared.module.Function as ir_function
-use Rattle.naga_ir.specs.declared.module.LocalVariable.{LocalVariable}
-use Rattle.naga_ir.specs.declared.module.Module.{Module}
+use Rattle.module_semantics.specs.IR.{Expression, ExpressionInfo, Handle, LocalVariable, Module, ModuleInfo}
+use Rattle.module_semantics.specs.IR.{StatementTree, loop, trees_in}
 use Rattle.naga_info.proofs.Options.{map_some}
-use Rattle.naga_info.specs.declared.info.ExpressionInfo.{ExpressionInfo}
-use Rattle.naga_info.specs.declared.info.ModuleInfo.{ModuleInfo}
-use Rattle.naga_info.specs.declared.info.TypeResolution.TheVariants.{Handle}
-use Rattle.naga_ir.specs.InOrder.{trees_in}
-use Rattle.naga_ir.specs.StatementTree.{StatementTree, loop}
-use Rattle.naga_ir.specs.declared.expression.Expression.{Expression}
 use Rattle.shader_runs.specs.Program.{Function, binds, expression_of, operands_of}
 use Rattle.shader_runs.specs.Premises.{AllBelow}
 use Rattle.shader_runs.specs.Scope.{at_start}

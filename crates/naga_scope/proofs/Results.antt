@@ -7,9 +7,8 @@ use Rattle.std.proofs.lemmas.Bool.{and_parts}
 use Rattle.module_semantics.specs.acceptance.Ranges.{block_in_range, cases_in_range, is_below}
 use Rattle.module_semantics.specs.acceptance.Ranges.{statement_in_range}
 use Rattle.module_semantics.specs.acceptance.Numbers.{case_value_fits_32_bits}
-use Rattle.naga_ir.specs.StatementTree.{StatementTree, simple, block, branch, switch, loop}
-use Rattle.naga_ir.specs.StatementTree.{BlockTree, no_statements, statement, CaseTrees, no_cases}
-use Rattle.naga_ir.specs.StatementTree.{case}
+use Rattle.module_semantics.specs.IR.{BlockTree, CaseTrees, StatementTree, block, branch, case, loop, no_cases}
+use Rattle.module_semantics.specs.IR.{no_statements, simple, statement, switch}
 use Rattle.shader_runs.proofs.Update.{and_right}
 use Rattle.naga_scope.specs.Results.{CaseResultsFit, ResultsFit, StatementResultsFit}
 use Rattle.module_semantics.proofs.StatementRanges.{result_below}

@@ -5,16 +5,11 @@ use Rattle.std.proofs.Common.{◌≡◌, ℕ, Bool, ◌&&◌, ◌||◌, true, fa
 use Rattle.std.proofs.Common.{Some, None, refl, sym, ap, ◌∙◌}
 use Rattle.std.specs.Prelude.{slice_get, if◌then◌else◌}
 use Rattle.std.specs.Option.{is_some, option_map_or}
-use Rattle.naga_ir.specs.Kinds.{kind_of}
-use Rattle.naga_ir.specs.Operands.{expression_operands}
+use Rattle.module_semantics.specs.IR.{ExpressionInfo, ExpressionKind, Module, ModuleInfo, expression_operands, kind_of}
 use Rattle.naga_ir.specs.declared.expression.Expression as ir
 use Rattle.naga_ir.specs.declared.expression.Expression.TheVariants as expression
-use Rattle.naga_ir.specs.declared.kind.ExpressionKind.{ExpressionKind}
 use Rattle.naga_ir.specs.declared.kind.ExpressionKind.TheVariants as kind
 use Rattle.naga_ir.specs.declared.module.Function as ir_function
-use Rattle.naga_ir.specs.declared.module.Module.{Module}
-use Rattle.naga_info.specs.declared.info.ExpressionInfo.{ExpressionInfo}
-use Rattle.naga_info.specs.declared.info.ModuleInfo.{ModuleInfo}
 use Rattle.shader_runs.specs.Program.{Expression, Load, Constant}
 use Rattle.shader_runs.specs.Program.{operands_of, Function, expression_of, is_counted, is_named}
 use Rattle.shader_runs.specs.Program.{binds, is_emittable, is_pure}

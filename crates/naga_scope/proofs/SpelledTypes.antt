@@ -14,21 +14,12 @@ use Rattle.module_semantics.specs.FunctionShapes.{function_shape}
 use Rattle.module_semantics.specs.Written.{IsSpelledIn, OfArgument, OfLet, OfLocal, OfResult}
 use Rattle.module_semantics.specs.Written.{block_lets}
 use Rattle.naga_info.proofs.Options.{map_some}
-use Rattle.naga_info.specs.declared.info.ExpressionInfo.{ExpressionInfo}
-use Rattle.naga_info.specs.declared.info.ModuleInfo.{ModuleInfo}
-use Rattle.naga_info.specs.declared.info.TypeResolution.{TypeResolution}
-use Rattle.naga_info.specs.declared.info.TypeResolution.TheVariants.{Handle}
-use Rattle.naga_ir.specs.StatementTree.{StatementTree}
-use Rattle.naga_ir.specs.declared.module.Function.{Function}
-use Rattle.naga_ir.specs.declared.module.FunctionArgument.{FunctionArgument}
-use Rattle.naga_ir.specs.declared.module.FunctionResult.{FunctionResult}
-use Rattle.naga_ir.specs.declared.module.LocalVariable.{LocalVariable}
-use Rattle.naga_ir.specs.declared.module.Module.{Module}
+use Rattle.module_semantics.specs.IR.{ExpressionInfo, Function, FunctionArgument, FunctionResult, Handle}
+use Rattle.module_semantics.specs.IR.{LocalVariable, Module, ModuleInfo, StatementTree, TypeResolution, trees_in}
 use Rattle.naga_scope.proofs.Among.{among_one, of_some, one_among, some_of}
 use Rattle.naga_scope.proofs.InOrder.{lets_in_order}
 use Rattle.naga_tables.proofs.Finding.{none_passes, found_passes, found_first, there_among}
 use Rattle.naga_tables.proofs.Finding.{among_there}
-use Rattle.naga_ir.specs.InOrder.{trees_in}
 use Rattle.naga_scope.specs.InOrder.{own_lets}
 use Rattle.naga_scope.specs.Lines.{declared_type, lets_at}
 use Rattle.naga_tables.specs.Declarations.{Each}

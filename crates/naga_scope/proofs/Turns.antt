@@ -7,11 +7,9 @@ use Rattle.std.specs.Prelude.{cond}
 use Rattle.module_semantics.specs.ExpressionOperators.{ExpressionContext, is_atomic_pointer}
 use Rattle.module_semantics.specs.FunctionShapes.{cases_shape, statement_shape, statements_shape}
 use Rattle.module_semantics.specs.StatementShapes.{store_shape}
-use Rattle.naga_ir.specs.StatementTree.{continue, store, StatementTree, simple, block, branch}
-use Rattle.naga_ir.specs.StatementTree.{switch, loop, BlockTree, no_statements, statement}
-use Rattle.naga_ir.specs.StatementTree.{CaseTrees, no_cases, case, statement_size, block_size}
-use Rattle.naga_ir.specs.StatementViews.{block_of, tree_of}
-use Rattle.naga_ir.specs.declared.statement.Statement.{Statement}
+use Rattle.module_semantics.specs.IR.{BlockTree, CaseTrees, Statement, StatementTree, block, block_of, block_size}
+use Rattle.module_semantics.specs.IR.{branch, case, continue, loop, no_cases, no_statements, simple, statement}
+use Rattle.module_semantics.specs.IR.{statement_size, store, switch, tree_of}
 use Rattle.naga_scope.specs.Changes.{block_changes, statement_changes}
 use Rattle.naga_scope.specs.Continues.{any_continue, before_continue, count_before, from_continue}
 use Rattle.naga_scope.specs.Continues.{holds_continue, some_case_continues}

@@ -10,30 +10,20 @@ use Rattle.std.proofs.Common.{◌≡◌, ℕ, Bool, true, false, List, [], ◌�
 use Rattle.std.proofs.Common.{map}
 use Rattle.indexmap.specs.IndexMap.{with_entries}
 use Rattle.module_semantics.specs.AlikeTypes.{handle_key}
-use Rattle.module_semantics.proofs.ModuleShapeExamples.{one}
-use Rattle.module_semantics.proofs.PlaceExamples.{none_of}
-use Rattle.naga_info.specs.declared.info.ExpressionInfo.{ExpressionInfo}
-use Rattle.naga_info.specs.declared.info.ModuleInfo.{ModuleInfo}
-use Rattle.naga_info.specs.declared.info.TypeResolution.TheVariants.{Handle}
-use Rattle.naga_ir.specs.StatementTree.{StatementTree, simple, ray_query, store, block, branch, switch, loop}
-use Rattle.naga_ir.specs.StatementTree.{BlockTree, no_statements, statement, CaseTrees, no_cases, case}
-use Rattle.naga_ir.specs.StatementTree.{atomic, call, emit, subgroup_collective_operation}
+use Rattle.module_semantics.proofs.examples.Vectors.{none_of, one}
+use Rattle.module_semantics.specs.IR.{BlockTree, CaseTrees, ExpressionInfo, Function, FunctionArgument, FunctionResult}
+use Rattle.module_semantics.specs.IR.{Handle, LocalVariable, Module, ModuleInfo, StatementTree, TypeInner, Type_}
+use Rattle.module_semantics.specs.IR.{atomic, block, branch, call, case, emit, loop, no_cases, no_statements, ray_query}
+use Rattle.module_semantics.specs.IR.{simple, statement, store, subgroup_collective_operation, switch}
 use Rattle.naga_ir.specs.declared.expression.Expression.TheVariants as expression
 use Rattle.naga_ir.specs.declared.expression.Literal.TheVariants as literal
-use Rattle.naga_ir.specs.declared.module.Function.{Function}
-use Rattle.naga_ir.specs.declared.module.FunctionArgument.{FunctionArgument}
-use Rattle.naga_ir.specs.declared.module.FunctionResult.{FunctionResult}
-use Rattle.naga_ir.specs.declared.module.LocalVariable.{LocalVariable}
-use Rattle.naga_ir.specs.declared.module.Module.{Module}
 use Rattle.naga_ir.specs.declared.operators.AtomicFunction.TheVariants.{Exchange}
 use Rattle.naga_ir.specs.declared.operators.BinaryOperator.TheVariants as binary
 use Rattle.naga_ir.specs.declared.operators.CollectiveOperation.TheVariants.{InclusiveScan}
 use Rattle.naga_ir.specs.declared.operators.SubgroupOperation.TheVariants.{Max}
 use Rattle.naga_ir.specs.declared.statement.SwitchValue.TheVariants as switch_value
 use Rattle.naga_ir.specs.declared.types.ScalarKind.TheVariants as kind
-use Rattle.naga_ir.specs.declared.types.TypeInner.{TypeInner}
 use Rattle.naga_ir.specs.declared.types.TypeInner.TheVariants.{Scalar}
-use Rattle.naga_ir.specs.declared.types.Type_.{Type_}
 use Rattle.naga_scope.specs.FirstLack.{first_lack}
 use Rattle.naga_scope.specs.Lines.{break_at, number_after}
 use Rattle.naga_scope.specs.declared.lines.Declared.TheVariants as by

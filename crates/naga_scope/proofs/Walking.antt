@@ -8,10 +8,8 @@ use Rattle.std.specs.Option.{option_or}
 use Rattle.std.specs.Prelude.{cond, Err, Ok, Result}
 use Rattle.module_semantics.specs.ExpressionContexts.{declared, types_known}
 use Rattle.module_semantics.specs.ExpressionOperators.{ExpressionContext}
-use Rattle.naga_ir.specs.InOrder.{trees_in, trees_inside}
-use Rattle.naga_ir.specs.StatementTree.{StatementTree, simple, block, branch, switch, loop, BlockTree}
-use Rattle.naga_ir.specs.StatementTree.{no_statements, statement}
-use Rattle.naga_ir.specs.declared.module.LocalVariable.{LocalVariable}
+use Rattle.module_semantics.specs.IR.{BlockTree, LocalVariable, StatementTree, block, branch, loop, no_statements}
+use Rattle.module_semantics.specs.IR.{simple, statement, switch, trees_in, trees_inside}
 use Rattle.naga_scope.specs.Changes.{inside_changes, statement_changes}
 use Rattle.naga_scope.specs.Continues.{before_continue, from_continue, holds_continue}
 use Rattle.naga_scope.specs.FirstLack.{WrittenFunction, block_in, block_lack, break_lack, inside_lack}

@@ -9,11 +9,8 @@ use Rattle.std.specs.List.{IsAmong, flat_map}
 use Rattle.std.specs.Option.{option_and_then, option_map_or, option_to_list}
 use Rattle.std.specs.Prelude.{if◌then◌else◌}
 use Rattle.module_semantics.specs.Written.{IsWritten, OperandOf, Start, function_handles}
-use Rattle.naga_ir.specs.InOrder.{trees_in}
-use Rattle.naga_ir.specs.StatementTree.{StatementTree, simple, block, branch, switch, loop}
-use Rattle.naga_ir.specs.declared.expression.Expression.{Expression}
-use Rattle.naga_ir.specs.declared.module.Function.{Function}
-use Rattle.naga_ir.specs.declared.module.LocalVariable.{LocalVariable}
+use Rattle.module_semantics.specs.IR.{Expression, Function, LocalVariable, StatementTree, block, branch, loop, simple}
+use Rattle.module_semantics.specs.IR.{switch, trees_in}
 use Rattle.naga_scope.proofs.Among.{among_one, of_some, one_among, some_of}
 use Rattle.naga_scope.proofs.InOrder.{same_handles}
 use Rattle.naga_scope.specs.InOrder.{break_handle, handles_with, line_own_handles, own_handles}

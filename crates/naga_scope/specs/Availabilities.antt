@@ -5,13 +5,10 @@
 use Rattle.std.specs.Prelude.{ℕ, Bool, true, false, List, [], Option, Some, None, nat_lt, length}
 use Rattle.std.specs.Prelude.{slice_get, get_or, if◌then◌else◌, ◌||◌, IsTrue}
 use Rattle.std.specs.Option.{option_map_or}
-use Rattle.naga_ir.specs.Kinds.{kind_of}
-use Rattle.naga_ir.specs.Operands.{expression_operands}
+use Rattle.module_semantics.specs.IR.{ExpressionKind, Function, expression_operands, kind_of}
 use Rattle.naga_ir.specs.declared.expression.Expression as ir
 use Rattle.naga_ir.specs.declared.expression.Expression.TheVariants as expression
-use Rattle.naga_ir.specs.declared.kind.ExpressionKind.{ExpressionKind}
 use Rattle.naga_ir.specs.declared.kind.ExpressionKind.TheVariants as kind
-use Rattle.naga_ir.specs.declared.module.Function.{Function}
 use Rattle.shader_runs.specs.Program.{Function as Shape}
 use Rattle.shader_runs.specs.Scope as runs
 use Rattle.module_semantics.specs.Names.{numbered_name}

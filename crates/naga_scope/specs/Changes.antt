@@ -2,10 +2,8 @@
 -- result, those of the statements in its blocks too.
 use Rattle.std.specs.Prelude.{ℕ, ◌+◌, ◌-◌, length}
 use Rattle.std.specs.Option.{option_to_list}
-use Rattle.naga_ir.specs.Operands.{simple_result}
-use Rattle.naga_ir.specs.StatementTree.{SimpleStatement, emit, StatementTree, simple, block, branch}
-use Rattle.naga_ir.specs.StatementTree.{switch, loop, BlockTree, no_statements, statement}
-use Rattle.naga_ir.specs.StatementTree.{CaseTrees, no_cases, case}
+use Rattle.module_semantics.specs.IR.{BlockTree, CaseTrees, SimpleStatement, StatementTree, block, branch, case, emit}
+use Rattle.module_semantics.specs.IR.{loop, no_cases, no_statements, simple, simple_result, statement, switch}
 
 abbrev pub simple_changes : SimpleStatement → ℕ
 simple_changes (emit first end) = end - first

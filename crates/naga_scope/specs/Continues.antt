@@ -2,9 +2,8 @@
 --
 -- Throughout, b is the rest of a block, and cs are the further cases.
 use Rattle.std.specs.Prelude.{ℕ, ◌+◌, Bool, true, false, cond, ◌||◌}
-use Rattle.naga_ir.specs.StatementTree.{continue, StatementTree, simple, block, branch}
-use Rattle.naga_ir.specs.StatementTree.{switch, loop, BlockTree, no_statements, statement}
-use Rattle.naga_ir.specs.StatementTree.{CaseTrees, no_cases, case}
+use Rattle.module_semantics.specs.IR.{BlockTree, CaseTrees, StatementTree, block, branch, case, continue, loop}
+use Rattle.module_semantics.specs.IR.{no_cases, no_statements, simple, statement, switch}
 
 abbrev mutual
   pub holds_continue : StatementTree → Bool

@@ -17,14 +17,10 @@ use Rattle.module_semantics.specs.ExpressionContexts.{declared, types_known}
 use Rattle.module_semantics.specs.ExpressionForms.{expression_has_form}
 use Rattle.module_semantics.specs.FunctionShapes.{function_shape, statement_shape, statements_shape}
 use Rattle.module_semantics.specs.Namings.{function_naming}
-use Rattle.naga_info.specs.declared.info.ExpressionInfo.{ExpressionInfo}
-use Rattle.naga_info.specs.declared.info.ModuleInfo.{ModuleInfo}
-use Rattle.naga_ir.specs.InOrder.{trees_in}
-use Rattle.naga_ir.specs.StatementTree.{StatementTree, simple, block, branch, switch, loop, BlockTree}
-use Rattle.naga_ir.specs.StatementTree.{no_statements, statement, CaseTrees, no_cases, case}
+use Rattle.module_semantics.specs.IR.{BlockTree, CaseTrees, ExpressionInfo, LocalVariable, Module, ModuleInfo}
+use Rattle.module_semantics.specs.IR.{StatementTree, block, branch, case, loop, no_cases, no_statements, simple}
+use Rattle.module_semantics.specs.IR.{statement, switch, trees_in}
 use Rattle.naga_ir.specs.declared.module.Function as ir
-use Rattle.naga_ir.specs.declared.module.LocalVariable.{LocalVariable}
-use Rattle.naga_ir.specs.declared.module.Module.{Module}
 use Rattle.naga_scope.specs.InOrder.{line_own_handles}
 use Rattle.naga_scope.specs.Lacks.{lowest_lack, lowest_of}
 use Rattle.naga_scope.specs.Lines.{number_after}

@@ -7,9 +7,7 @@ use Rattle.std.specs.List.{flat_map}
 use Rattle.std.specs.Option.{option_to_list}
 use Rattle.module_semantics.specs.ExpressionLabels.{labels_of_each}
 use Rattle.module_semantics.specs.Written.{simple_lets, simple_handles}
-use Rattle.naga_ir.specs.Operands.{own_operands}
-use Rattle.naga_ir.specs.StatementTree.{emit, loop, StatementTree, simple}
-use Rattle.naga_ir.specs.declared.module.Function.{Function}
+use Rattle.module_semantics.specs.IR.{Function, StatementTree, emit, loop, own_operands, simple}
 use Rattle.naga_scope.specs.Changes.{simple_changes}
 use Rattle.shader_runs.specs.Program.{from}
 

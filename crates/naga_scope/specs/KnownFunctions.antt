@@ -9,8 +9,7 @@ use Rattle.module_semantics.specs.FunctionShapes.{statements_shape}
 use Rattle.module_semantics.specs.Namings.{function_naming}
 use Rattle.module_semantics.specs.Premises.{OperandsStandBefore}
 use Rattle.module_semantics.specs.ExpressionForms.{expression_has_form}
-use Rattle.naga_ir.specs.StatementTree.{BlockTree, CaseTrees, StatementTree}
-use Rattle.naga_ir.specs.declared.expression.Expression.{Expression}
+use Rattle.module_semantics.specs.IR.{BlockTree, CaseTrees, Expression, StatementTree}
 use Rattle.naga_scope.specs.Availabilities.{KeepsStart, TextPoint, handles_of}
 use Rattle.naga_scope.specs.declared.known_function.KnownFunction.{KnownFunction}
 use Rattle.shader_runs.specs.Program.{Cases, Function, Statement, Statements, binds}

@@ -6,8 +6,7 @@
 use Rattle.std.specs.Prelude.{◌≡◌, ℕ, zero, suc, Bool, List, [], ◌∷◌, Option, Some, None, get_or}
 use Rattle.std.specs.Prelude.{if◌then◌else◌, nat_lt, slice_get}
 use Rattle.std.specs.Option.{option_map_or}
-use Rattle.naga_ir.specs.Operands.{expression_operands}
-use Rattle.naga_ir.specs.declared.expression.Expression.{Expression}
+use Rattle.module_semantics.specs.IR.{Expression, expression_operands}
 
 -- the lower of two handles, if there are any
 abbrev pub lower : Option ℕ → Option ℕ → Option ℕ

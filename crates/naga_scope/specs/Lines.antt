@@ -9,12 +9,8 @@ use Rattle.std.specs.Prelude.{slice_get}
 use Rattle.std.specs.Option.{option_and_then, option_map, option_map_or, option_to_list}
 use Rattle.module_semantics.specs.FunctionShapes.{function_shape}
 use Rattle.module_semantics.specs.Written.{IsWritten}
-use Rattle.naga_info.specs.declared.info.ExpressionInfo.{ExpressionInfo}
-use Rattle.naga_info.specs.declared.info.ModuleInfo.{ModuleInfo}
-use Rattle.naga_ir.specs.declared.module.Function.{Function}
-use Rattle.naga_ir.specs.declared.module.Module.{Module}
-use Rattle.naga_ir.specs.StatementTree.{StatementTree}
-use Rattle.naga_ir.specs.InOrder.{trees_in, trees_inside}
+use Rattle.module_semantics.specs.IR.{ExpressionInfo, Function, Module, ModuleInfo, StatementTree, trees_in}
+use Rattle.module_semantics.specs.IR.{trees_inside}
 use Rattle.naga_scope.specs.InOrder.{break_handle, line_own_handles, own_lets}
 use Rattle.naga_scope.specs.declared.lines.Declared.{Declared}
 use Rattle.naga_scope.specs.declared.lines.Declared.TheVariants as declared

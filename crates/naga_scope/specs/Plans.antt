@@ -6,13 +6,10 @@ use Rattle.std.specs.Prelude.{◌≡◌, ◌<◌, ◌^◌, ⊤, ℕ, Bool, List,
 use Rattle.std.specs.Prelude.{get_or, length, nat_le, slice_get}
 use Rattle.std.specs.List.{IsAmong}
 use Rattle.naga_ir.specs.declared.module.Function as ir
-use Rattle.naga_info.specs.declared.info.ExpressionInfo.{ExpressionInfo}
+use Rattle.module_semantics.specs.IR.{ExpressionInfo, Handle, Module, ModuleInfo}
 use Rattle.module_semantics.specs.ExpressionForms.{expression_has_form}
 use Rattle.module_semantics.specs.Undeclared.{is_spellable}
 use Rattle.module_semantics.specs.Written.{IsSpelledIn, OfFunctionAt, WrittenHaveForms}
-use Rattle.naga_ir.specs.declared.module.Module.{Module}
-use Rattle.naga_info.specs.declared.info.ModuleInfo.{ModuleInfo}
-use Rattle.naga_info.specs.declared.info.TypeResolution.TheVariants.{Handle}
 use Rattle.shader_runs.specs.Program.{binds}
 use Rattle.shader_runs.specs.Scope.{at_start}
 use Rattle.shader_runs.specs.ScopeRules.{ScopeHolds}

@@ -2,10 +2,8 @@
 -- expressions.
 use Rattle.std.specs.Prelude.{ℕ, IsTrue}
 use Rattle.module_semantics.specs.acceptance.Ranges.{is_below}
-use Rattle.naga_ir.specs.Operands.{simple_result}
-use Rattle.naga_ir.specs.StatementTree.{StatementTree, simple, block, branch, switch, loop}
-use Rattle.naga_ir.specs.StatementTree.{BlockTree, no_statements, statement, CaseTrees, no_cases}
-use Rattle.naga_ir.specs.StatementTree.{case}
+use Rattle.module_semantics.specs.IR.{BlockTree, CaseTrees, StatementTree, block, branch, case, loop, no_cases}
+use Rattle.module_semantics.specs.IR.{no_statements, simple, simple_result, statement, switch}
 
 abbrev mutual
   pub StatementResultsFit : (expressions : ℕ) → StatementTree → Type 0

@@ -8,11 +8,9 @@ use Rattle.std.specs.Prelude.{Some, None, slice_get}
 use Rattle.std.specs.Option.{is_some, option_or}
 use Rattle.module_semantics.specs.OperatorTable.{texel_change_word, collective_word}
 use Rattle.module_semantics.specs.StatementShapes.{change_of}
-use Rattle.naga_ir.specs.StatementTree.{SimpleStatement, image_atomic, ray_query}
-use Rattle.naga_ir.specs.StatementTree.{subgroup_collective_operation}
-use Rattle.naga_ir.specs.StatementTree.{StatementTree, simple, switch, BlockTree}
-use Rattle.naga_ir.specs.StatementTree.{CaseTrees, no_cases, case, has_no_statements}
-use Rattle.naga_ir.specs.InOrder.{trees_in}
+use Rattle.module_semantics.specs.IR.{BlockTree, CaseTrees, SimpleStatement, StatementTree, case, has_no_statements}
+use Rattle.module_semantics.specs.IR.{image_atomic, no_cases, ray_query, simple, subgroup_collective_operation, switch}
+use Rattle.module_semantics.specs.IR.{trees_in}
 use Rattle.naga_refusals.specs.declared.construct.Construct.{Construct}
 use Rattle.naga_refusals.specs.declared.construct.Construct.TheVariants.{RayQuery, FallThrough}
 use Rattle.naga_refusals.specs.declared.construct.Construct.TheVariants.{SubgroupOperation}

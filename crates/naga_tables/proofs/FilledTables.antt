@@ -28,20 +28,11 @@ use Rattle.naga_form.proofs.declarations.AcceptedGroups.{types_range}
 use Rattle.module_semantics.proofs.KeyDepths.{at_depth, parts_stand}
 use Rattle.naga_form.proofs.declarations.OwnExpressions.{declared_in_range}
 use Rattle.naga_info.proofs.Options.{some_kept}
-use Rattle.naga_info.specs.declared.info.ModuleInfo.{ModuleInfo}
-use Rattle.naga_info.specs.declared.info.TypeResolution.{TypeResolution}
-use Rattle.naga_info.specs.declared.info.TypeResolution.TheVariants.{Handle, Value}
-use Rattle.naga_ir.specs.declared.expression.Expression.{Expression}
+use Rattle.module_semantics.specs.IR.{Constant, Expression, Handle, Module, ModuleInfo, Scalar, SpecialTypes}
+use Rattle.module_semantics.specs.IR.{TypeInner, TypeResolution, Type_, Value, VectorSize}
 use Rattle.naga_ir.specs.declared.expression.Expression.TheVariants as expression
 use Rattle.naga_ir.specs.declared.image.ImageClass.TheVariants as class
-use Rattle.naga_ir.specs.declared.module.Constant.{Constant}
-use Rattle.naga_ir.specs.declared.module.Module.{Module}
-use Rattle.naga_ir.specs.declared.module.SpecialTypes.{SpecialTypes}
-use Rattle.naga_ir.specs.declared.types.Scalar.{Scalar}
-use Rattle.naga_ir.specs.declared.types.Type_.{Type_}
-use Rattle.naga_ir.specs.declared.types.TypeInner.{TypeInner}
 use Rattle.naga_ir.specs.declared.types.TypeInner.TheVariants as inner
-use Rattle.naga_ir.specs.declared.types.VectorSize.{VectorSize}
 use Rattle.naga_spelling.specs.Spelling.{is_struct}
 use Rattle.wgsl_words.specs.Words.{scalar_word, space_word}
 use Rattle.naga_tables.proofs.Marking.{just_marked}

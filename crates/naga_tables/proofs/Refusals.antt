@@ -18,14 +18,9 @@ use Rattle.module_semantics.specs.ExpressionOperators.{own_operator}
 use Rattle.module_semantics.specs.OperatorTable.{has_word}
 use Rattle.module_semantics.specs.Sampling.{own_offset_has_form}
 use Rattle.module_semantics.specs.Undeclared.{is_spellable}
-use Rattle.naga_info.specs.declared.info.ExpressionInfo.{ExpressionInfo}
-use Rattle.naga_info.specs.declared.info.TypeResolution.{TypeResolution}
-use Rattle.naga_info.specs.declared.info.TypeResolution.TheVariants.{Handle}
 use Rattle.naga_ir.specs.Operands.{expression_operands}
-use Rattle.naga_ir.specs.declared.expression.Expression.{Expression}
+use Rattle.module_semantics.specs.IR.{Constant, Expression, ExpressionInfo, Handle, Module, TypeResolution}
 use Rattle.naga_ir.specs.declared.expression.Expression.TheVariants as expression
-use Rattle.naga_ir.specs.declared.module.Constant.{Constant}
-use Rattle.naga_ir.specs.declared.module.Module.{Module}
 use Rattle.naga_refusals.specs.declared.construct.Construct.{Construct}
 use Rattle.naga_refusals.specs.declared.construct.Construct.TheVariants as construct
 use Rattle.naga_tables.specs.Refusals.{constant_refusal, constant_refusal_over, expression_refusal}

@@ -26,19 +26,9 @@ use Rattle.module_semantics.specs.Layouts.{concerned_of, concerned_only, keeps_b
 use Rattle.module_semantics.specs.Layouts.{placed_in}
 use Rattle.module_semantics.specs.Undeclared.{is_declared, is_spellable, is_undeclared}
 use Rattle.module_semantics.specs.ExpressionForms.{global_has_form}
-use Rattle.naga_info.specs.declared.info.TypeResolution.TheVariants.{Handle}
-use Rattle.naga_ir.specs.declared.binding.Binding.{Binding}
+use Rattle.module_semantics.specs.IR.{Binding, Constant, EntryPoint, Function, FunctionArgument, FunctionResult}
+use Rattle.module_semantics.specs.IR.{GlobalVariable, Handle, Module, Override, StructMember, Type_}
 use Rattle.naga_ir.specs.declared.binding.Binding.TheVariants as binding
-use Rattle.naga_ir.specs.declared.module.Constant.{Constant}
-use Rattle.naga_ir.specs.declared.module.EntryPoint.{EntryPoint}
-use Rattle.naga_ir.specs.declared.module.Function.{Function}
-use Rattle.naga_ir.specs.declared.module.FunctionArgument.{FunctionArgument}
-use Rattle.naga_ir.specs.declared.module.FunctionResult.{FunctionResult}
-use Rattle.naga_ir.specs.declared.module.GlobalVariable.{GlobalVariable}
-use Rattle.naga_ir.specs.declared.module.Module.{Module}
-use Rattle.naga_ir.specs.declared.module.Override.{Override}
-use Rattle.naga_ir.specs.declared.types.StructMember.{StructMember}
-use Rattle.naga_ir.specs.declared.types.Type_.{Type_}
 use Rattle.naga_ir.specs.declared.types.TypeInner.TheVariants as inner
 use Rattle.naga_layout.proofs.Concerned.{concerned_laid, laid_concerned, none_stands}
 use Rattle.naga_layout.proofs.Left.{all_aligned}

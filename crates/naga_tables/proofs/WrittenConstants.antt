@@ -16,18 +16,13 @@ use Rattle.naga_form.proofs.operators.Ordered.{each_below}
 use Rattle.naga_form.proofs.declarations.OwnExpressions.{Own, constant_named}
 use Rattle.naga_form.proofs.declarations.OwnExpressions.{initialiser_stands_before}
 use Rattle.naga_form.proofs.declarations.OwnExpressions.{initialiser_within, own_is}
-use Rattle.naga_info.specs.declared.info.ModuleInfo.{ModuleInfo}
+use Rattle.module_semantics.specs.IR.{Constant, Expression, Handle, Module, ModuleInfo, expression_operands}
 use Rattle.module_semantics.specs.Undeclared.{is_spellable}
 use Rattle.module_semantics.specs.ExpressionForms.{constant_has_form_over, global_has_form_over}
 use Rattle.module_semantics.specs.ExpressionForms.{operator_has_form}
 use Rattle.module_semantics.specs.Premises.{OperandsStandBefore}
 use Rattle.module_semantics.specs.WrittenOut.{is_written_out, written_out_over, written_out_within}
-use Rattle.naga_ir.specs.Operands.{expression_operands}
-use Rattle.naga_ir.specs.declared.expression.Expression.{Expression}
 use Rattle.naga_ir.specs.declared.expression.Expression.TheVariants as expression
-use Rattle.naga_info.specs.declared.info.TypeResolution.TheVariants.{Handle}
-use Rattle.naga_ir.specs.declared.module.Constant.{Constant}
-use Rattle.naga_ir.specs.declared.module.Module.{Module}
 use Rattle.naga_refusals.specs.declared.construct.Construct.{Construct}
 use Rattle.naga_refusals.specs.declared.construct.Construct.TheVariants as construct
 use Rattle.naga_tables.specs.Marks.{GlobalsStandInOrder, is_marked}

@@ -16,18 +16,9 @@ use Rattle.module_semantics.specs.FunctionNumbers.{all_functions}
 use Rattle.module_semantics.specs.Layouts.{HasOtherStride, IsMisplaced, concerned_only}
 use Rattle.module_semantics.specs.Layouts.{keeps_bindings, module_rule, placed_in}
 use Rattle.module_semantics.specs.Undeclared.{is_declared}
-use Rattle.naga_info.specs.declared.info.TypeResolution.TheVariants.{Handle}
-use Rattle.naga_ir.specs.declared.binding.Binding.{Binding}
+use Rattle.module_semantics.specs.IR.{Binding, Constant, EntryPoint, Function, FunctionResult, GlobalVariable, Handle}
+use Rattle.module_semantics.specs.IR.{Module, Override, StructMember, Type_}
 use Rattle.naga_ir.specs.declared.binding.Binding.TheVariants as binding
-use Rattle.naga_ir.specs.declared.module.Constant.{Constant}
-use Rattle.naga_ir.specs.declared.module.EntryPoint.{EntryPoint}
-use Rattle.naga_ir.specs.declared.module.Function.{Function}
-use Rattle.naga_ir.specs.declared.module.FunctionResult.{FunctionResult}
-use Rattle.naga_ir.specs.declared.module.GlobalVariable.{GlobalVariable}
-use Rattle.naga_ir.specs.declared.module.Module.{Module}
-use Rattle.naga_ir.specs.declared.module.Override.{Override}
-use Rattle.naga_ir.specs.declared.types.StructMember.{StructMember}
-use Rattle.naga_ir.specs.declared.types.Type_.{Type_}
 use Rattle.naga_layout.specs.Types.{arrays_are_kept}
 use Rattle.naga_naming.specs.Reset.{members_of}
 use Rattle.naga_refusals.specs.declared.construct.Construct.{Construct}

@@ -1,8 +1,6 @@
 -- What is asked of types where it is decided whether expressions have forms.
 use Rattle.std.specs.Prelude.{◌≡◌, ℕ, List, Some, slice_get}
-use Rattle.naga_info.specs.Resolution.{InRange}
-use Rattle.naga_info.specs.declared.info.ExpressionInfo.{ExpressionInfo}
-use Rattle.naga_ir.specs.declared.types.Type_.{Type_}
+use Rattle.module_semantics.specs.IR.{ExpressionInfo, InRange, Type_}
 
 -- each type that is known of an expression is one of these or one by itself
 abbrev pub AreKnownIn : List Type_ → List ExpressionInfo → Type 0

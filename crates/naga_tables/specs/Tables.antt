@@ -14,13 +14,8 @@ use Rattle.module_semantics.specs.LackingScalars.{base_type, own_unwritable_scal
 use Rattle.module_semantics.specs.Layouts.{layout_in, module_rule}
 use Rattle.module_semantics.specs.acceptance.Ranges.{parts_stand_before, special_types_fit}
 use Rattle.module_semantics.specs.Undeclared.{handle_names_undeclared, is_undeclared}
-use Rattle.naga_info.specs.declared.info.TypeResolution.{TypeResolution}
-use Rattle.naga_info.specs.declared.info.TypeResolution.TheVariants.{Handle, Value}
-use Rattle.naga_ir.specs.declared.expression.Expression.{Expression}
+use Rattle.module_semantics.specs.IR.{Expression, Handle, Module, SpecialTypes, TypeInner, TypeResolution, Value}
 use Rattle.naga_ir.specs.declared.expression.Expression.TheVariants as expression
-use Rattle.naga_ir.specs.declared.module.Module.{Module}
-use Rattle.naga_ir.specs.declared.module.SpecialTypes.{SpecialTypes}
-use Rattle.naga_ir.specs.declared.types.TypeInner.{TypeInner}
 use Rattle.naga_ir.specs.declared.types.TypeInner.TheVariants as inner
 use Rattle.naga_layout.specs.Bindings.{TellBindings}
 use Rattle.naga_layout.specs.Tables.{cell_at, mark_at}

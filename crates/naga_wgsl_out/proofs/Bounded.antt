@@ -5,8 +5,7 @@ use Rattle.std.proofs.Common.{arith, inl, inr, length, length-append, refl, stri
 use Rattle.std.specs.Prelude.{◌⊎◌, IsTrue, OnErr, OnOk, alloc_error}
 use Rattle.std.specs.declared.string.String.{String}
 use Rattle.naga_spelling.specs.Sink.{IsAfter}
-use Rattle.naga_ir.specs.declared.module.Module.{Module}
-use Rattle.naga_info.specs.declared.info.ModuleInfo.{ModuleInfo}
+use Rattle.module_semantics.specs.IR.{Module, ModuleInfo}
 use Rattle.naga_back.specs.declared.flags.WriterFlags.{WriterFlags}
 use Rattle.naga_back.specs.Flags.{annotates_types}
 use Rattle.naga_acceptance.specs.declared.faults.Unaccepted.{Unaccepted}

@@ -9,9 +9,7 @@ use Rattle.std.specs.Option.{is_none, is_some, option_to_list}
 use Rattle.std.specs.Prelude.{◌&&◌, IsTrue, None, Option, Some, if◌then◌else◌}
 use Rattle.std.proofs.lemmas.List.{append-nil}
 use Rattle.std.proofs.lemmas.Option.{slice_get_within}
-use Rattle.naga_info.specs.declared.info.TypeResolution.TheVariants.{Handle}
-use Rattle.naga_ir.specs.declared.module.Constant.{Constant}
-use Rattle.naga_ir.specs.declared.module.Module.{Module}
+use Rattle.module_semantics.specs.IR.{Constant, Handle, Module}
 use Rattle.naga_ir.specs.declared.module.Override as ir_override
 use Rattle.naga_naming.specs.declared.key.NameKey.TheVariants as key
 use Rattle.module_semantics.proofs.ExpressionForms.{type_form_of_spellable}

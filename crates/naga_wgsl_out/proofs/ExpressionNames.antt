@@ -8,15 +8,13 @@ use Rattle.std.proofs.lemmas.List.Concat.{flat_map-append}
 use Rattle.std.proofs.lemmas.List.{take_more}
 use Rattle.std.proofs.lemmas.Option.{get_or_from_slice_get, none-some}
 use Rattle.naga_naming.proofs.Refusal.{element}
-use Rattle.naga_ir.specs.declared.module.Function.{Function}
-use Rattle.naga_ir.specs.declared.module.Module.{Module}
+use Rattle.module_semantics.specs.IR.{Function, Module, ModuleInfo}
 use Rattle.naga_naming.specs.Naming.{HasNamed, Names}
 use Rattle.module_semantics.specs.ExpressionLabels.{expression_labels, all_expression_labels}
 use Rattle.module_semantics.specs.FunctionNumbers.{all_functions}
 use Rattle.module_semantics.specs.Names.{expression_name, item_labels, labels_before, labels_named_in}
 use Rattle.naga_scope.specs.ExpressionNames.{NamesLabels}
 use Rattle.naga_scope.specs.Plans.{AreExpressionNames, IsPlanOf, Planned}
-use Rattle.naga_info.specs.declared.info.ModuleInfo.{ModuleInfo}
 use Rattle.naga_wgsl_fns.specs.PlanRefusals.{ExpressionNamesAreFullIn}
 use Rattle.naga_wgsl_fns.proofs.ExpressionNames.{named_are, none_full as none_full_after}
 use Rattle.naga_wgsl_out.specs.ModuleRefusals.{HasNamedBefore}

@@ -3,9 +3,8 @@
 use Rattle.std.proofs.Common.{◌≡◌, ◌<◌, ◌∙◌, ◌++◌, ℕ, Bool, List, [], Ok, Err, ap, append-nil, inl}
 use Rattle.std.proofs.Common.{inr, length, subst, sym, None, Option, Some, refl, slice_get}
 use Rattle.std.proofs.lemmas.Option.{slice_get_within}
-use Rattle.naga_ir.specs.declared.module.Function.{Function}
+use Rattle.module_semantics.specs.IR.{Function, Module, ModuleInfo}
 use Rattle.std.specs.Prelude.{◌⊎◌, IfErr, IsErrAnd, IsTrue, OnErr, OnOk, Result}
-use Rattle.naga_ir.specs.declared.module.Module.{Module}
 use Rattle.module_semantics.specs.acceptance.Accepted.{is_accepted}
 use Rattle.module_semantics.specs.DeclarationForms.{DeclarationsHaveForms}
 use Rattle.wgsl_text.specs.Declarations.{Program}
@@ -14,7 +13,6 @@ use Rattle.module_semantics.specs.FunctionNumbers.{all_functions}
 use Rattle.naga_form.proofs.names.Resolution.{resolves}
 use Rattle.naga_form.proofs.declarations.Interface.{has_interface}
 use Rattle.naga_form.proofs.Programs.{is_program}
-use Rattle.naga_info.specs.declared.info.ModuleInfo.{ModuleInfo}
 use Rattle.naga_naming.specs.Keys.{NameMap}
 use Rattle.wgsl_text.specs.Reading.{Reads, HasOneReading}
 use Rattle.wgsl_text.specs.Text.{tokens}

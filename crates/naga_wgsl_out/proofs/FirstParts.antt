@@ -9,13 +9,7 @@ use Rattle.module_semantics.specs.ExpressionForms.{expression_has_form}
 use Rattle.module_semantics.specs.FunctionShapes.{function_shape}
 use Rattle.module_semantics.specs.Undeclared.{is_spellable}
 use Rattle.module_semantics.specs.Written.{WrittenHaveForms}
-use Rattle.naga_info.specs.declared.info.ExpressionInfo.{ExpressionInfo}
-use Rattle.naga_info.specs.declared.info.ModuleInfo.{ModuleInfo}
-use Rattle.naga_info.specs.declared.info.TypeResolution.{TypeResolution}
-use Rattle.naga_info.specs.declared.info.TypeResolution.TheVariants.{Handle}
-use Rattle.naga_ir.specs.declared.expression.Expression.{Expression}
-use Rattle.naga_ir.specs.declared.module.Function.{Function}
-use Rattle.naga_ir.specs.declared.module.Module.{Module}
+use Rattle.module_semantics.specs.IR.{Expression, ExpressionInfo, Function, Handle, Module, ModuleInfo, TypeResolution}
 use Rattle.naga_scope.proofs.FormedStatements.{some_unsupported}
 use Rattle.naga_scope.proofs.ScopeFaults.{fault_breaks}
 use Rattle.naga_scope.proofs.WrittenLines.{in_the_function}

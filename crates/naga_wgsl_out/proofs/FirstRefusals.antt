@@ -19,15 +19,8 @@ use Rattle.module_semantics.specs.DeclarationForms.IsIoBinding.{OfArgument, OfRe
 use Rattle.module_semantics.specs.FunctionNumbers.{all_functions, all_infos}
 use Rattle.module_semantics.specs.Layouts.{concerned_members, concerned_of, keeps_bindings, module_rule}
 use Rattle.module_semantics.specs.ExpressionForms.{global_has_form}
-use Rattle.naga_info.specs.declared.info.ModuleInfo.{ModuleInfo}
-use Rattle.naga_ir.specs.declared.module.Constant.{Constant}
-use Rattle.naga_ir.specs.declared.module.EntryPoint.{EntryPoint}
-use Rattle.naga_ir.specs.declared.module.Function.{Function}
-use Rattle.naga_ir.specs.declared.module.GlobalVariable.{GlobalVariable}
-use Rattle.naga_ir.specs.declared.module.Module.{Module}
-use Rattle.naga_ir.specs.declared.module.Override.{Override}
-use Rattle.naga_ir.specs.declared.types.StructMember.{StructMember}
-use Rattle.naga_ir.specs.declared.types.Type_.{Type_}
+use Rattle.module_semantics.specs.IR.{Constant, EntryPoint, Function, GlobalVariable, Module, ModuleInfo, Override}
+use Rattle.module_semantics.specs.IR.{StructMember, Type_}
 use Rattle.naga_layout.specs.Types.{arrays_are_kept}
 use Rattle.naga_naming.specs.Reset.{members_of}
 use Rattle.naga_scope.proofs.Planned.{shape_found}

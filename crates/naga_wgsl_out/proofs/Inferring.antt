@@ -6,8 +6,7 @@ use Rattle.module_limits.specs.Nesting.{nested_past}
 use Rattle.module_limits.specs.declared.limits.Limits.{Limits}
 use Rattle.naga_back.specs.declared.flags.WriterFlags.{WriterFlags}
 use Rattle.naga_inference.specs.declared.errors.InferenceError.{InferenceError}
-use Rattle.naga_info.specs.declared.info.ModuleInfo.{ModuleInfo}
-use Rattle.naga_ir.specs.declared.module.Module.{Module}
+use Rattle.module_semantics.specs.IR.{Module, ModuleInfo}
 use Rattle.naga_refusals.specs.declared.error.Error.{Error}
 use Rattle.naga_refusals.specs.declared.error.Error.TheVariants as error
 use Rattle.naga_wgsl_out.specs.Inferring.{AnswersInferred, AnswersInferredWithin, IsInferred}

@@ -8,8 +8,7 @@ use Rattle.std.specs.Prelude.{IfSome, IsTrue, slice_get}
 use Rattle.std.proofs.lemmas.Option.{same_Some, slice_get_within}
 use mathlib.Core.List.{reverse_aux}
 use Rattle.naga_ir.specs.declared.module.Function as ir_function
-use Rattle.naga_ir.specs.declared.module.Module.{Module}
-use Rattle.naga_info.specs.declared.info.ModuleInfo.{ModuleInfo}
+use Rattle.module_semantics.specs.IR.{Binding, Handle, Module, ModuleInfo}
 use Rattle.shader_runs.specs.Program.{Function}
 use Rattle.shader_runs.specs.ScopeRules.{ScopeHolds}
 use Rattle.module_semantics.specs.acceptance.Accepted.{is_accepted}
@@ -35,8 +34,6 @@ use Rattle.naga_wgsl_fns.specs.PlanRefusals.{TellsOfScope}
 use Rattle.module_semantics.specs.DeclarationForms.{binding_has_form}
 use Rattle.module_semantics.specs.ExpressionForms.{global_has_form}
 use Rattle.module_semantics.specs.Undeclared.{is_spellable}
-use Rattle.naga_info.specs.declared.info.TypeResolution.TheVariants.{Handle}
-use Rattle.naga_ir.specs.declared.binding.Binding.{Binding}
 use Rattle.naga_refusals.specs.declared.construct.Construct.{Construct}
 use Rattle.naga_tables.proofs.Refusals.{global_refusal_is, refused_lacks, unless_is}
 use Rattle.naga_tables.proofs.UnsupportedDeclarations.{formed_binding}

@@ -5,8 +5,7 @@ use Rattle.std.proofs.Common.{None, sym, ap, subst, unwrap_or, [], ◌∙◌, ar
 use Rattle.std.specs.Prelude.{slice_get, map, nat_lt, Result, Ok, Err, OnOk, IfErr, IsErr}
 use Rattle.std.specs.FinSet as set
 use Rattle.std.proofs.lemmas.Bool.{and_parts, ltb-true}
-use Rattle.naga_ir.specs.declared.module.Function.{Function}
-use Rattle.naga_ir.specs.declared.module.Module.{Module}
+use Rattle.module_semantics.specs.IR.{Function, Module}
 use Rattle.naga_keywords.specs.Words.{Words}
 use Rattle.naga_keywords.specs.declared.keywords.TheConstants.{RESERVED, BUILTIN_IDENTIFIERS}
 use Rattle.naga_naming.specs.Naming.{HasNamed, Names, new_names}

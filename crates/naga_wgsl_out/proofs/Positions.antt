@@ -12,11 +12,7 @@ use Rattle.module_semantics.specs.Names.{labels_before, wgsl_names}
 use Rattle.module_semantics.specs.Undeclared.{is_spellable}
 use Rattle.module_semantics.specs.Written.{IsSpelledIn}
 use Rattle.naga_form.proofs.statements.AcceptedFunctions.{all_counted}
-use Rattle.naga_info.specs.declared.info.ExpressionInfo.{ExpressionInfo}
-use Rattle.naga_info.specs.declared.info.ModuleInfo.{ModuleInfo}
-use Rattle.naga_info.specs.declared.info.TypeResolution.TheVariants.{Handle}
-use Rattle.naga_ir.specs.declared.module.Function.{Function}
-use Rattle.naga_ir.specs.declared.module.Module.{Module}
+use Rattle.module_semantics.specs.IR.{ExpressionInfo, Function, Handle, Module, ModuleInfo}
 use Rattle.naga_naming.proofs.Refusal.{element}
 use Rattle.naga_naming.specs.Keys.{NameMap}
 use Rattle.naga_naming.specs.Naming.{Names}

@@ -12,8 +12,7 @@ use Rattle.module_semantics.proofs.Layouts.{stand_in_order}
 use Rattle.module_semantics.proofs.WrittenSizes.{Laid, aligned_at, begins_at, given, laid}
 use Rattle.module_semantics.proofs.WrittenSizes.{placed_none, placed_some, unlaid}
 use Rattle.module_semantics.specs.Layouts.{layout_in, span_of, written_size}
-use Rattle.naga_ir.specs.declared.module.Module.{Module}
-use Rattle.naga_ir.specs.declared.types.StructMember.{StructMember}
+use Rattle.module_semantics.specs.IR.{Module, StructMember}
 use Rattle.naga_layout.specs.Types.{StandInOrder, placed_members}
 use Rattle.naga_naming.specs.Reset.{members_of}
 use Rattle.naga_tables.proofs.FilledTables.{items_in_order}

@@ -11,12 +11,8 @@ use Rattle.std.proofs.lemmas.Option.{slice_get_within}
 use Rattle.std.specs.List.{cons_option, enumerate_from, filter_map}
 use Rattle.std.specs.Option.{option_to_list}
 use Rattle.std.specs.Prelude.{◌&&◌, IsTrue, None, Option, Some, if◌then◌else◌, not}
-use Rattle.naga_info.specs.declared.info.TypeResolution.TheVariants.{Handle}
-use Rattle.naga_ir.specs.declared.binding.Binding.{Binding}
-use Rattle.naga_ir.specs.declared.module.Module.{Module}
+use Rattle.module_semantics.specs.IR.{Binding, Handle, Module, TypeInner, Type_}
 use Rattle.naga_ir.specs.declared.types.StructMember as ir_member
-use Rattle.naga_ir.specs.declared.types.Type_.{Type_}
-use Rattle.naga_ir.specs.declared.types.TypeInner.{TypeInner}
 use Rattle.naga_ir.specs.declared.types.TypeInner.TheVariants as inner
 use Rattle.naga_naming.proofs.Refusal.{run_out_unfit}
 use Rattle.naga_naming.specs.Refusal.{HasLongStruct}

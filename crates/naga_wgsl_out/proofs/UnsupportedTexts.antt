@@ -11,21 +11,12 @@ use Rattle.module_semantics.specs.ExpressionOperators.{own_operator}
 use Rattle.module_semantics.specs.LackingScalars.{lacking_scalar}
 use Rattle.module_semantics.specs.OperatorTable.{has_word}
 use Rattle.module_semantics.specs.Undeclared.{names_undeclared}
-use Rattle.naga_info.specs.declared.info.ExpressionInfo.{ExpressionInfo}
-use Rattle.naga_info.specs.declared.info.TypeResolution.{TypeResolution}
-use Rattle.naga_info.specs.declared.info.TypeResolution.TheVariants.{Handle}
-use Rattle.naga_ir.specs.InOrder.{trees_in}
-use Rattle.naga_ir.specs.StatementTree.{SimpleStatement, StatementTree, BlockTree, CaseTrees}
-use Rattle.naga_ir.specs.StatementTree.{case, has_no_statements, image_atomic, no_cases, ray_query}
-use Rattle.naga_ir.specs.StatementTree.{simple, subgroup_collective_operation, switch}
-use Rattle.naga_ir.specs.declared.expression.Expression.{Expression}
+use Rattle.module_semantics.specs.IR.{BlockTree, CaseTrees, Constant, Expression, ExpressionInfo, Handle, Literal}
+use Rattle.module_semantics.specs.IR.{Module, Scalar, SimpleStatement, StatementTree, TypeInner, TypeResolution, case}
+use Rattle.module_semantics.specs.IR.{has_no_statements, image_atomic, no_cases, ray_query, simple}
+use Rattle.module_semantics.specs.IR.{subgroup_collective_operation, switch, trees_in}
 use Rattle.naga_ir.specs.declared.expression.Expression.TheVariants as expression
-use Rattle.naga_ir.specs.declared.expression.Literal.{Literal}
 use Rattle.naga_ir.specs.declared.expression.Literal.TheVariants as literal
-use Rattle.naga_ir.specs.declared.module.Constant.{Constant}
-use Rattle.naga_ir.specs.declared.module.Module.{Module}
-use Rattle.naga_ir.specs.declared.types.Scalar.{Scalar}
-use Rattle.naga_ir.specs.declared.types.TypeInner.{TypeInner}
 use Rattle.naga_ir.specs.declared.types.TypeInner.TheVariants as inner
 use Rattle.naga_refusals.specs.Constructs.{IsToldAs, IsToldOf, construct_words}
 use Rattle.naga_refusals.specs.Errors.{IsCustom, IsUnimplemented, IsUnsupported, TellsOfModule}

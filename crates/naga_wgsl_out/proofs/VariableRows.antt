@@ -9,12 +9,7 @@ use Rattle.std.specs.List.{enumerate_from}
 use Rattle.std.specs.Prelude.{IsTrue, None, Option, Some}
 use Rattle.std.proofs.lemmas.List.{append-nil}
 use Rattle.std.proofs.lemmas.Option.{slice_get_within}
-use Rattle.naga_info.specs.declared.info.TypeResolution.TheVariants.{Handle}
-use Rattle.naga_ir.specs.declared.binding.ResourceBinding.{ResourceBinding}
-use Rattle.naga_ir.specs.declared.flags.MemoryDecorations.{MemoryDecorations}
-use Rattle.naga_ir.specs.declared.module.GlobalVariable.{GlobalVariable}
-use Rattle.naga_ir.specs.declared.module.Module.{Module}
-use Rattle.naga_ir.specs.declared.types.AddressSpace.{AddressSpace}
+use Rattle.module_semantics.specs.IR.{AddressSpace, GlobalVariable, Handle, MemoryDecorations, Module, ResourceBinding}
 use Rattle.naga_naming.specs.declared.key.NameKey.TheVariants as key
 use Rattle.module_semantics.proofs.ExpressionForms.{type_form_of_spellable}
 use Rattle.module_semantics.specs.AlikeTypes.{has_type_form}

@@ -3,8 +3,7 @@
 -- Throughout, m is the module, and info is what is known of it.
 use Rattle.std.specs.Prelude.{◌≡◌, Option, Some, None, Result, Ok, Err, String}
 use Rattle.naga_acceptance.specs.Counts.{all_with_counts, functions_of}
-use Rattle.naga_info.specs.declared.info.ModuleInfo.{ModuleInfo}
-use Rattle.naga_ir.specs.declared.module.Module.{Module}
+use Rattle.module_semantics.specs.IR.{Module, ModuleInfo}
 use Rattle.naga_refusals.specs.declared.error.Error.{Error}
 use Rattle.naga_wgsl_out.specs.declared.checked.CheckedError.{CheckedError}
 use Rattle.naga_wgsl_out.specs.declared.checked.CheckedError.TheVariants.{NotAccepted, Refused}

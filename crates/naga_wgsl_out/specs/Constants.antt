@@ -4,8 +4,7 @@
 use Rattle.std.specs.Prelude.{ℕ, ◌∷◌, [], ◌++◌, List, Option, map}
 use Rattle.std.specs.List.{enumerate_from, filter_map}
 use Rattle.std.specs.Option.{option_to_list}
-use Rattle.naga_ir.specs.declared.module.Constant.{Constant}
-use Rattle.naga_ir.specs.declared.module.Module.{Module}
+use Rattle.module_semantics.specs.IR.{Constant, Module}
 use Rattle.naga_ir.specs.declared.module.Override as ir_override
 use Rattle.module_semantics.specs.Names.{constant_name, module_names}
 use Rattle.module_semantics.specs.Types.{type_names}

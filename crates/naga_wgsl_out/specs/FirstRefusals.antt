@@ -4,8 +4,7 @@
 -- Throughout, m is the module, info what is known of it, explicit says whether `let`s tell types,
 -- and one and other are refusals.
 use Rattle.std.specs.Prelude.{◌≡◌, Bool}
-use Rattle.naga_info.specs.declared.info.ModuleInfo.{ModuleInfo}
-use Rattle.naga_ir.specs.declared.module.Module.{Module}
+use Rattle.module_semantics.specs.IR.{Module, ModuleInfo}
 use Rattle.naga_wgsl_out.specs.ModuleRefusals.{NothingIsRefused}
 use Rattle.naga_wgsl_out.specs.Unwritable.{IsFirst, StandsIn}
 use Rattle.naga_wgsl_out.specs.declared.unwritable.Refusal.{Refusal}

@@ -3,8 +3,7 @@
 -- Throughout, m is the module, and flags say how it is written.
 use Rattle.std.specs.Prelude.{◌≡◌, ℕ, Bool, List, [], ◌++◌, string_bytes, Result, Ok, Err, OnOk}
 use Rattle.std.specs.declared.string.String.{String}
-use Rattle.naga_ir.specs.declared.module.Module.{Module}
-use Rattle.naga_info.specs.declared.info.ModuleInfo.{ModuleInfo}
+use Rattle.module_semantics.specs.IR.{Module, ModuleInfo}
 use Rattle.wgsl_text.specs.Reading.{Reads, HasOneReading}
 use Rattle.wgsl_text.specs.Text.{tokens}
 use Rattle.wgsl_text.specs.Declarations.{Program}

@@ -12,8 +12,7 @@ use Rattle.naga_back.specs.declared.flags.WriterFlags.{WriterFlags}
 use Rattle.naga_inference.specs.Following.{NoneIsAccepted}
 use Rattle.naga_inference.specs.Inferred.{IsRefused, IsTyped}
 use Rattle.naga_inference.specs.declared.errors.InferenceError.{InferenceError}
-use Rattle.naga_info.specs.declared.info.ModuleInfo.{ModuleInfo}
-use Rattle.naga_ir.specs.declared.module.Module.{Module}
+use Rattle.module_semantics.specs.IR.{Module, ModuleInfo}
 use Rattle.naga_refusals.specs.Errors.{TellsOfModule}
 use Rattle.naga_refusals.specs.declared.error.Error.{Error}
 use Rattle.naga_refusals.specs.declared.error.Error.TheVariants.{Memory}

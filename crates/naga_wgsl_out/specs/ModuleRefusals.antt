@@ -2,8 +2,7 @@
 --
 -- Throughout, m is the module, e an error of memory, and explicit says whether `let`s tell types.
 use Rattle.std.specs.Prelude.{◌≡◌, ⊤, ℕ, List, ◌⊎◌, codes, string_bytes, Result, Ok, Err, Bool}
-use Rattle.naga_ir.specs.declared.module.Module.{Module}
-use Rattle.naga_info.specs.declared.info.ModuleInfo.{ModuleInfo}
+use Rattle.module_semantics.specs.IR.{Module, ModuleInfo}
 use Rattle.module_semantics.specs.DeclarationForms.{DeclarationsHaveForms}
 use Rattle.module_semantics.specs.Written.{AllWrittenHaveForms}
 use Rattle.module_semantics.specs.Names.{HasNamesOf, labels_before, wgsl_names}

@@ -5,9 +5,8 @@
 use Rattle.std.specs.Prelude.{◌≡◌, ℕ, ◌∷◌, [], List, IsTrue, Option, None, Some, map, slice_get}
 use Rattle.std.specs.List.{enumerate_from, filter_map}
 use Rattle.std.specs.Option.{option_map, option_to_list}
-use Rattle.naga_ir.specs.declared.module.Module.{Module}
+use Rattle.module_semantics.specs.IR.{Module, Type_}
 use Rattle.naga_ir.specs.declared.types.StructMember as ir_member
-use Rattle.naga_ir.specs.declared.types.Type_.{Type_}
 use Rattle.naga_naming.specs.Reset.{members_of}
 use Rattle.naga_naming.specs.declared.key.NameKey.TheVariants as key
 use Rattle.module_semantics.specs.Layouts.{span_of}

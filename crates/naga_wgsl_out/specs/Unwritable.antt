@@ -13,12 +13,7 @@ use Rattle.module_semantics.specs.Names.{labels_before, wgsl_names}
 use Rattle.module_semantics.specs.Written.{IsSpelledIn}
 use Rattle.naga_back.specs.declared.context.FunctionType.{FunctionType}
 use Rattle.naga_back.specs.declared.context.FunctionType.TheVariants as item
-use Rattle.naga_info.specs.declared.info.ExpressionInfo.{ExpressionInfo}
-use Rattle.naga_info.specs.declared.info.ModuleInfo.{ModuleInfo}
-use Rattle.naga_info.specs.declared.info.TypeResolution.{TypeResolution}
-use Rattle.naga_info.specs.declared.info.TypeResolution.TheVariants.{Handle}
-use Rattle.naga_ir.specs.declared.module.Function.{Function}
-use Rattle.naga_ir.specs.declared.module.Module.{Module}
+use Rattle.module_semantics.specs.IR.{ExpressionInfo, Function, Handle, Module, ModuleInfo, TypeResolution}
 use Rattle.naga_naming.specs.Naming.{Names}
 use Rattle.naga_naming.specs.Refusal.{IsResetRefusal}
 use Rattle.naga_naming.specs.declared.error.NamerError.{NamerError}

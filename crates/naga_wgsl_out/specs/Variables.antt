@@ -4,10 +4,7 @@
 -- what lives in a space.
 use Rattle.std.specs.Prelude.{ℕ, ◌∷◌, [], ◌++◌, List, Option, codes, map}
 use Rattle.std.specs.List.{enumerate_from}
-use Rattle.naga_ir.specs.declared.binding.ResourceBinding.{ResourceBinding}
-use Rattle.naga_ir.specs.declared.module.GlobalVariable.{GlobalVariable}
-use Rattle.naga_ir.specs.declared.module.Module.{Module}
-use Rattle.naga_ir.specs.declared.types.AddressSpace.{AddressSpace}
+use Rattle.module_semantics.specs.IR.{AddressSpace, GlobalVariable, Module, ResourceBinding}
 use Rattle.naga_naming.specs.declared.key.NameKey.TheVariants as key
 use Rattle.module_semantics.specs.Names.{module_names}
 use Rattle.module_semantics.specs.Types.{type_names}

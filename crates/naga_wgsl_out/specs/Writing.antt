@@ -5,9 +5,7 @@
 use Rattle.std.specs.Prelude.{◌≡◌, ◌+◌, ◌<◌, ◌++◌, ◌⊎◌, ℕ, Bool, List, [], Result, Ok, Err, codes}
 use Rattle.std.specs.Prelude.{OnOk, if◌then◌else◌, length, nat_lt, take}
 use Rattle.std.specs.List.{enumerate_from, flat_map}
-use Rattle.naga_ir.specs.declared.module.Function.{Function}
-use Rattle.naga_ir.specs.declared.module.Module.{Module}
-use Rattle.naga_info.specs.declared.info.ModuleInfo.{ModuleInfo}
+use Rattle.module_semantics.specs.IR.{Function, Module, ModuleInfo}
 use Rattle.naga_scope.specs.Plans.{AreExpressionNames, IsPlanOf, Planned}
 use Rattle.naga_form.specs.Declarations.{written_program}
 use Rattle.module_semantics.specs.Enables.{written_enables}

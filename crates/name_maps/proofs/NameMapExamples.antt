@@ -14,7 +14,7 @@ use Rattle.naga_ir.specs.declared.types.StructMember as ir_member
 use Rattle.naga_ir.specs.declared.types.TypeInner.TheVariants as inner
 use Rattle.naga_naming.specs.Keys.{NameMap}
 use Rattle.naga_naming.specs.declared.key.NameKey.TheVariants as key
-use Rattle.module_semantics.proofs.InterfaceExamples.{two}
+use Rattle.module_semantics.proofs.examples.Vectors.{two}
 use Rattle.json.specs.Print.{escape_byte}
 use Rattle.serde_json.specs.Data.{string}
 use Rattle.serde_json.specs.Written.{compact_text}

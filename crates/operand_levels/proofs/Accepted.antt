@@ -2,11 +2,7 @@
 use Rattle.std.proofs.Common.{◌≡◌, ◌∙◌, true, List, [], ◌∷◌, refl, ap, inl, subst, sym}
 use Rattle.std.specs.Vec.{with_items}
 use Rattle.std.proofs.lemmas.List.{with_items_is}
-use Rattle.naga_ir.specs.declared.module.Module.{Module}
-use Rattle.naga_ir.specs.declared.types.Type_.{Type_}
-use Rattle.naga_info.specs.declared.info.ExpressionInfo.{ExpressionInfo}
-use Rattle.naga_info.specs.declared.info.ModuleInfo.{ModuleInfo}
-use Rattle.naga_info.specs.declared.info.TypeResolution.{TypeResolution}
+use Rattle.module_semantics.specs.IR.{ExpressionInfo, Module, ModuleInfo, TypeResolution, Type_}
 use Rattle.module_semantics.specs.acceptance.Accepted.{is_accepted}
 use Rattle.naga_inference.specs.Following.{HasSameType, IsSameType}
 use Rattle.naga_inference.specs.Passes.{AllLike}

@@ -6,13 +6,10 @@ use Rattle.std.proofs.Common.{max, nat_eq, true, false}
 use Rattle.std.proofs.Math.Nat.{le-max_left, le_refl}
 use Rattle.std.proofs.lemmas.Bool.{eqb-true}
 use Rattle.std.specs.List.{enumerate_from}
-use Rattle.naga_info.specs.declared.info.ExpressionInfo.{ExpressionInfo}
-use Rattle.naga_ir.specs.declared.expression.Expression.{Expression}
-use Rattle.naga_ir.specs.declared.module.Function.{Function}
+use Rattle.module_semantics.specs.IR.{Expression, ExpressionInfo, Function, expression_operands}
 use Rattle.operand_levels.specs.Levels.{all_bound_where_deep, bound_where_deep, raised, with_bound}
 use Rattle.operand_levels.specs.Levels.{bound_after, is_too_deep, level_left, level_over}
 use Rattle.operand_levels.specs.Levels.{raised_where_deep, with_raised}
-use Rattle.naga_ir.specs.Operands.{expression_operands}
 use Rattle.operand_levels.specs.Raised.{AllRaised, AreRaised, IsRaised}
 
 pub with_raised_set : (ks : List ExpressionInfo) (h : ℕ) (d : ExpressionInfo) → h < length ks →

@@ -12,10 +12,7 @@ use Rattle.std.proofs.lemmas.Bool.{le-leb, leb-true, ltb-false}
 use Rattle.std.specs.List.{enumerate_from}
 use Rattle.indexmap.specs.IndexMap.{get}
 use Rattle.naga_back.specs.Baking.{count_to_bind}
-use Rattle.naga_info.specs.declared.info.ExpressionInfo.{ExpressionInfo}
-use Rattle.naga_ir.specs.Operands.{expression_operands}
-use Rattle.naga_ir.specs.declared.expression.Expression.{Expression}
-use Rattle.naga_ir.specs.declared.module.Function.{Function}
+use Rattle.module_semantics.specs.IR.{Expression, ExpressionInfo, Function, expression_operands}
 use Rattle.operand_levels.specs.Levels.{all_bound_where_deep, bound_after, bound_where_deep}
 use Rattle.operand_levels.specs.Levels.{can_be_bound, is_bound, is_too_deep, level_at, level_left}
 use Rattle.operand_levels.specs.Levels.{level_over, levels_after, levels_of, most_levels}

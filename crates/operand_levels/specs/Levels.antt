@@ -11,10 +11,7 @@ use Rattle.std.specs.Option.{is_some}
 use Prim.Native.Nat.{zero, suc}
 use Rattle.indexmap.specs.IndexMap.{get}
 use Rattle.naga_back.specs.Baking.{count_to_bind}
-use Rattle.naga_info.specs.declared.info.ExpressionInfo.{ExpressionInfo}
-use Rattle.naga_ir.specs.Operands.{expression_operands}
-use Rattle.naga_ir.specs.declared.expression.Expression.{Expression}
-use Rattle.naga_ir.specs.declared.module.Function.{Function}
+use Rattle.module_semantics.specs.IR.{Expression, ExpressionInfo, Function, expression_operands}
 
 -- ---- levels
 

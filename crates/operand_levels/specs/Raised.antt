@@ -4,9 +4,7 @@
 -- of several functions), and of two the first is as it was before, and the second as it is after.
 use Rattle.std.specs.Prelude.{◌≡◌, ◌≤◌, ◌<◌, ℕ, IsTrue, List, length, slice_get, Some}
 use Rattle.std.specs.List.{AllZip}
-use Rattle.naga_info.specs.declared.info.ExpressionInfo.{ExpressionInfo}
-use Rattle.naga_ir.specs.declared.expression.Expression.{Expression}
-use Rattle.naga_ir.specs.declared.module.Function.{Function}
+use Rattle.module_semantics.specs.IR.{Expression, ExpressionInfo, Function}
 use Rattle.operand_levels.specs.Levels.{can_be_bound, level_at, levels_of, most_levels, uses_at}
 
 -- the type is the same, and the count no less

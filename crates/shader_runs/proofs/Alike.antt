@@ -1,17 +1,12 @@
 -- Two runs that make the same events and stand in a relation wherever they pause.
 use Rattle.std.proofs.Common.{◌≡◌, ℕ, zero, suc, Bool, true, false, List, Option, Some, None, refl}
 use Rattle.std.proofs.Common.{sym, subst, cond, option_map, option_and_then}
-use Rattle.shader_runs.specs.Value.{Place, Value, truth_in, place_in}
-use Rattle.shader_runs.specs.World.{Event}
-use Rattle.shader_runs.specs.Outcome.{Stop, Mistyped, Outcome, Done, Continued, Broke, Returned}
-use Rattle.shader_runs.specs.Outcome.{Stopped, ReachedOrHalted, Gives, Halts, answer, Next}
-use Rattle.shader_runs.specs.Outcome.{and_then}
-use Rattle.shader_runs.specs.Outcome.{and_continue, within, and_again, turns, after_switch}
-use Rattle.shader_runs.specs.Outcome.{closed_outcome, closed_if, branch_by, or_stuck, reach}
-use Rattle.shader_runs.specs.ProgramRun.{if_typed, with_pointer}
-use Rattle.shader_runs.specs.Text.{Lines, last, before}
-use Rattle.shader_runs.specs.TextRun.{Denotation, IsPlace, Scope, Words, with_value, with_place}
-use Rattle.shader_runs.specs.TextRun.{has_continue, follow, follow_all, follow_in_loop}
+use Rattle.shader_runs.proofs.Common.{Place, Value, truth_in, place_in, Event, Stop, Mistyped, Outcome, Done, Continued}
+use Rattle.shader_runs.proofs.Common.{Broke, Returned, Stopped, ReachedOrHalted, Gives, Halts, answer, Next, and_then}
+use Rattle.shader_runs.proofs.Common.{and_continue, within, and_again, turns, after_switch, closed_outcome, closed_if}
+use Rattle.shader_runs.proofs.Common.{branch_by, or_stuck, reach, if_typed, with_pointer, Lines, last, before, Denotation}
+use Rattle.shader_runs.proofs.Common.{IsPlace, Scope, Words, with_value, with_place, has_continue, follow, follow_all}
+use Rattle.shader_runs.proofs.Common.{follow_in_loop}
 
 abbrev pub HoldsOf : {A : Type 0} → (A → Type 0) → ReachedOrHalted A → Type 0
 HoldsOf R (Gives a t) = R a

@@ -7,26 +7,18 @@
 -- cases, and x is a case value.
 use Rattle.std.proofs.Common.{◌≡◌, ℕ, zero, suc, cond, List, [], ◌∷◌, Option, Some, None, refl, ap}
 use Rattle.std.proofs.Common.{◌∙◌, length, option_map}
-use Rattle.shader_runs.specs.Value.{Value}
-use Rattle.shader_runs.specs.World.{Event, Write, update}
-use Rattle.shader_runs.specs.Outcome.{Done, Broke, Returned, ReachedOrHalted, Gives, Halts, answer}
-use Rattle.shader_runs.specs.Outcome.{after_switch, and_then, branch_by, or_stuck, turn, turns}
-use Rattle.shader_runs.specs.Outcome.{with_integer}
-use Rattle.shader_runs.specs.Program.{Action, Asked, Called, Access, AccessIndex, Cases, no_case}
-use Rattle.shader_runs.specs.Program.{case, Constant, Emit, Expression, Function, Block, If, Switch}
-use Rattle.shader_runs.specs.Program.{Loop, Return, Act, Store, CaseValue, Load, Logical, Numbered}
-use Rattle.shader_runs.specs.Program.{Operator, Request, Statement, Statements, Swizzle, end}
-use Rattle.shader_runs.specs.Program.{expression_of, from, handle_type, is_counted, operands_of}
-use Rattle.shader_runs.specs.Program.{then, Jumps}
-use Rattle.shader_runs.specs.ProgramRun.{Call, EmittedValues, action_answer, after_load}
-use Rattle.shader_runs.specs.ProgramRun.{after_request, also, computed_value, constant_values}
-use Rattle.shader_runs.specs.ProgramRun.{constants_at_start, emit, emit_as, first_used, first_used_all}
-use Rattle.shader_runs.specs.ProgramRun.{gathered_value, has_case_value, if_counted, joined_values}
-use Rattle.shader_runs.specs.ProgramRun.{case_value_if, leave, return_outcome, run, run_all}
-use Rattle.shader_runs.specs.ProgramRun.{run_body, run_cases, run_from_entry, run_on}
-use Rattle.shader_runs.specs.ProgramRun.{same_case_value, used_value, used_value_as, used_values}
-use Rattle.shader_runs.specs.ProgramRun.{with_first, with_pointer, constant_as, constant_below}
-use Rattle.shader_runs.specs.ProgramRun.{with_result}
+use Rattle.shader_runs.proofs.Common.{Value, Event, Write, update, Done, Broke, Returned, ReachedOrHalted, Gives, Halts}
+use Rattle.shader_runs.proofs.Common.{answer, after_switch, and_then, branch_by, or_stuck, turn, turns, with_integer}
+use Rattle.shader_runs.proofs.Common.{Action, Asked, Called, Access, AccessIndex, Cases, no_case, case, Constant, Emit}
+use Rattle.shader_runs.proofs.Common.{Expression, Function, Block, If, Switch, Loop, Return, Act, Store, CaseValue, Load}
+use Rattle.shader_runs.proofs.Common.{Logical, Numbered, Operator, Request, Statement, Statements, Swizzle, end}
+use Rattle.shader_runs.proofs.Common.{expression_of, from, handle_type, is_counted, operands_of, then, Jumps, Call}
+use Rattle.shader_runs.proofs.Common.{EmittedValues, action_answer, after_load, after_request, also, computed_value}
+use Rattle.shader_runs.proofs.Common.{constant_values, constants_at_start, emit, emit_as, first_used, first_used_all}
+use Rattle.shader_runs.proofs.Common.{gathered_value, has_case_value, if_counted, joined_values, case_value_if, leave}
+use Rattle.shader_runs.proofs.Common.{return_outcome, run, run_all, run_body, run_cases, run_from_entry, run_on}
+use Rattle.shader_runs.proofs.Common.{same_case_value, used_value, used_value_as, used_values, with_first, with_pointer}
+use Rattle.shader_runs.proofs.Common.{constant_as, constant_below, with_result}
 
 module _ (c : Call) (told : List Function) (body : Statements) where
   -- the same call, of which others are told as its callees, and of which this is the body

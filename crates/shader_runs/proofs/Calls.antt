@@ -7,38 +7,27 @@ use Rattle.std.proofs.lemmas.List.{length-take, length-take-le}
 use Rattle.std.proofs.lemmas.Option.{slice_get_within, none-some, same_Some}
 use Rattle.std.proofs.lemmas.Bool.{eqb-false}
 use Rattle.std.specs.Prelude.{IsTrue}
-use Rattle.shader_runs.specs.Value.{Bytes, same_bytes, PartTypes, ValueType, has_types, Value}
-use Rattle.shader_runs.specs.World.{Event, Entry, entries, World, Meaning, Environment, bind}
-use Rattle.shader_runs.specs.Outcome.{Stuck, ReachedOrHalted, Gives, Halts, answer, reach}
-use Rattle.shader_runs.specs.Program.{ConstantTree, Fixed, NamedConstant, Composed, Indexing}
-use Rattle.shader_runs.specs.Program.{Picking, Joining, ConstantTrees, no_constant, constant}
-use Rattle.shader_runs.specs.Program.{Expression, Constant, Operator, Request, Function}
-use Rattle.shader_runs.specs.Program.{argument_count, local_count, function_numbered, expression_of}
-use Rattle.shader_runs.specs.Program.{handle_type, operands_of, from, Statement, Emit, Block, If}
-use Rattle.shader_runs.specs.Program.{Switch, Loop, Statements, end, then, Cases, no_case, case}
-use Rattle.shader_runs.specs.Program.{Module, any_continue}
-use Rattle.shader_runs.specs.ProgramRun.{Call, EmittedValues, constants_at_start, run_if_arguments_fit}
-use Rattle.shader_runs.specs.ProgramRun.{used_value, with_first, first_used, first_used_all}
-use Rattle.shader_runs.specs.ProgramRun.{run_from_entry, run_all, run_body, run_call}
-use Rattle.shader_runs.specs.TextRun.{Scope, Words, WordUse, AsksForEvent, Operates, value_of}
-use Rattle.shader_runs.specs.TextRun.{with_parameters, with_variables, with_globals, no_names}
-use Rattle.shader_runs.specs.TextRun.{respond_by_use, put_first, first_followed, first_then}
-use Rattle.shader_runs.specs.TextRun.{first_of_each, entered_by, follow_all, follow_body}
-use Rattle.shader_runs.specs.TextRun.{follow_call, is_operation}
-use Rattle.shader_runs.specs.Scope.{ModuleNames, Naming, usable, usable_if, named_after}
-use Rattle.shader_runs.specs.Scope.{named_after_all, named_by, named_by_all, named_by_cases}
-use Rattle.shader_runs.specs.Scope.{at_start, before_local, first_values_fit, fits_all}
-use Rattle.shader_runs.specs.Scope.{fits_function}
-use Rattle.shader_runs.specs.Form.{names_from, variables_from, globals_from, value_at, value_if}
-use Rattle.shader_runs.specs.Form.{form_all, form_function, form_functions, functions_of}
-use Rattle.shader_runs.specs.Premises.{FixedName, ArgumentName, LocalName, ConstantName, GlobalName}
-use Rattle.shader_runs.specs.Premises.{NameKey, FixedKey, NumberedKey, NamedKey, fixed_name}
-use Rattle.shader_runs.specs.Premises.{IsFixedName, IsName, StandsFree, ConstantWords}
-use Rattle.shader_runs.specs.Premises.{ConstantsWords, WordFits, AllBelow, LeafFits, AreDistinct}
-use Rattle.shader_runs.specs.Premises.{AreRegular, OnlyEmptyFallIn, FunctionFits, AllFit}
-use Rattle.shader_runs.specs.Premises.{EnvironmentFits, IsTypedIn, AllTypedIn}
+use Rattle.shader_runs.proofs.Common.{Bytes, same_bytes, PartTypes, ValueType, has_types, Value, Event, Entry, entries}
+use Rattle.shader_runs.proofs.Common.{World, Meaning, Environment, bind, Stuck, ReachedOrHalted, Gives, Halts, answer}
+use Rattle.shader_runs.proofs.Common.{reach, ConstantTree, Fixed, NamedConstant, Composed, Indexing, Picking, Joining}
+use Rattle.shader_runs.proofs.Common.{ConstantTrees, no_constant, constant, Expression, Constant, Operator, Request}
+use Rattle.shader_runs.proofs.Common.{Function, argument_count, local_count, function_numbered, expression_of, handle_type}
+use Rattle.shader_runs.proofs.Common.{operands_of, from, Statement, Emit, Block, If, Switch, Loop, Statements, end, then}
+use Rattle.shader_runs.proofs.Common.{Cases, no_case, case, Module, any_continue, Call, EmittedValues, constants_at_start}
+use Rattle.shader_runs.proofs.Common.{run_if_arguments_fit, used_value, with_first, first_used, first_used_all}
+use Rattle.shader_runs.proofs.Common.{run_from_entry, run_all, run_body, run_call, Scope, Words, WordUse, AsksForEvent}
+use Rattle.shader_runs.proofs.Common.{Operates, value_of, with_parameters, with_variables, with_globals, no_names}
+use Rattle.shader_runs.proofs.Common.{respond_by_use, put_first, first_followed, first_then, first_of_each, entered_by}
+use Rattle.shader_runs.proofs.Common.{follow_all, follow_body, follow_call, is_operation, ModuleNames, Naming, usable}
+use Rattle.shader_runs.proofs.Common.{usable_if, named_after, named_after_all, named_by, named_by_all, named_by_cases}
+use Rattle.shader_runs.proofs.Common.{at_start, before_local, first_values_fit, fits_all, fits_function, names_from}
+use Rattle.shader_runs.proofs.Common.{variables_from, globals_from, value_at, value_if, form_all, form_function}
+use Rattle.shader_runs.proofs.Common.{form_functions, functions_of, FixedName, ArgumentName, LocalName, ConstantName}
+use Rattle.shader_runs.proofs.Common.{GlobalName, NameKey, FixedKey, NumberedKey, NamedKey, fixed_name, IsFixedName, IsName}
+use Rattle.shader_runs.proofs.Common.{StandsFree, ConstantWords, ConstantsWords, WordFits, AllBelow, LeafFits, AreDistinct}
+use Rattle.shader_runs.proofs.Common.{AreRegular, OnlyEmptyFallIn, FunctionFits, AllFit, EnvironmentFits, IsTypedIn}
+use Rattle.shader_runs.proofs.Common.{AllTypedIn, TextFunction}
 use Rattle.shader_runs.specs.Correct.{AreNamed}
-use Rattle.shader_runs.specs.Text.{TextFunction}
 use Rattle.shader_runs.proofs.Alike.{Answers, same_answer, alike_answers}
 use Rattle.shader_runs.proofs.Update.{and_left, and_right, same_bytes_equal, same_bytes_apart}
 use Rattle.shader_runs.proofs.Update.{has_types_length}

@@ -1,17 +1,12 @@
 -- The check of scope, its facts apart and with the freshness of each name that is given.
 use Rattle.std.proofs.Common.{◌≢◌, ℕ, Bool, true, false, List, [], ◌∷◌, Option, Some, None}
 use Rattle.std.specs.Prelude.{IsTrue}
-use Rattle.shader_runs.specs.Value.{Bytes}
-use Rattle.shader_runs.specs.Program.{Expression, Statement, Emit, Store, Block, If, Switch, Loop}
-use Rattle.shader_runs.specs.Program.{Return, Barrier, Act, Statements, end, then, Cases, no_case}
-use Rattle.shader_runs.specs.Program.{case, Module, expression_of, operands_of, binds, from}
-use Rattle.shader_runs.specs.Program.{is_emittable, Jumps}
-use Rattle.shader_runs.specs.ProgramRun.{Call, barrier_words}
-use Rattle.shader_runs.specs.Scope.{Bound, Handles, Names, bound_name, usable, usable_all}
-use Rattle.shader_runs.specs.Scope.{usable_if, is_new, named_after, named_by}
-use Rattle.shader_runs.specs.Scope.{named_by_all, after_one, after, after_all}
-use Rattle.shader_runs.specs.Premises.{FixedName, fixed_name, EachAsks, ActionFits, ReturnFits}
-use Rattle.shader_runs.specs.Premises.{IsResult, FallsFrom, FallsEmpty}
+use Rattle.shader_runs.proofs.Common.{Bytes, Expression, Statement, Emit, Store, Block, If, Switch, Loop, Return, Barrier}
+use Rattle.shader_runs.proofs.Common.{Act, Statements, end, then, Cases, no_case, case, Module, expression_of, operands_of}
+use Rattle.shader_runs.proofs.Common.{binds, from, is_emittable, Jumps, Call, barrier_words, Bound, Handles, Names}
+use Rattle.shader_runs.proofs.Common.{bound_name, usable, usable_all, usable_if, is_new, named_after, named_by}
+use Rattle.shader_runs.proofs.Common.{named_by_all, after_one, after, after_all, FixedName, fixed_name, EachAsks}
+use Rattle.shader_runs.proofs.Common.{ActionFits, ReturnFits, IsResult, FallsFrom, FallsEmpty}
 use Rattle.shader_runs.proofs.Relation.{IsHere, NoName}
 use Rattle.shader_runs.proofs.Evaluation.{naming}
 

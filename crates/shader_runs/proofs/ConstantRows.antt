@@ -1,8 +1,7 @@
 -- The worked constants, by computing, and the premises on them.
 use Rattle.std.proofs.Common.{◌≡◌, ◌≢◌, ℕ, zero, suc, ◌-◌, ◌<◌, [], ◌∷◌, Some, slice_get, refl}
 use Rattle.std.proofs.Common.{subst, arith}
-use Rattle.shader_runs.specs.Program.{ConstantTree}
-use Rattle.shader_runs.specs.Premises.{InitialiserFits, OperatesOutside}
+use Rattle.shader_runs.proofs.Common.{ConstantTree, InitialiserFits, OperatesOutside}
 use Rattle.shader_runs.specs.ConstantRows.{pair_word, pair_module, pair_names, ConstantRowsHold}
 use Rattle.shader_runs.proofs.Rows.{first_bytes}
 use Rattle.std.proofs.lemmas.Option.{none-some, same_Some}

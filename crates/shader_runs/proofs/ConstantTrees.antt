@@ -2,29 +2,20 @@
 use Rattle.std.proofs.Common.{◌≡◌, ℕ, Bool, true, false, cond, List, [], ◌∷◌, Option, Some, None}
 use Rattle.std.proofs.Common.{refl, ap, ap₂, ◌∙◌, option_map}
 use Rattle.std.specs.Prelude.{IsTrue, option_and_then}
-use Rattle.shader_runs.specs.Value.{Bytes, PartTypes, IntegerType, OtherType, type_at, has_type}
-use Rattle.shader_runs.specs.Value.{has_types, Value, Truth, Whole, Pointer, Opaque, Spelled}
-use Rattle.shader_runs.specs.Value.{Place, place_in, Selector, ShortCircuit, PartWord, IndexWord}
-use Rattle.shader_runs.specs.World.{Event, Meaning, World}
-use Rattle.shader_runs.specs.Program.{ConstantTree, Fixed, NamedConstant, Composed, Indexing}
-use Rattle.shader_runs.specs.Program.{Picking, Joining}
-use Rattle.shader_runs.specs.Program.{ConstantTrees, no_constant, constant, Module}
-use Rattle.shader_runs.specs.ProgramRun.{also, operator_value, tree_value, tree_values, decides}
-use Rattle.shader_runs.specs.ProgramRun.{undecided_value, constant_part_by, constant_index}
-use Rattle.shader_runs.specs.ProgramRun.{constant_part, constant_logic}
-use Rattle.shader_runs.specs.TextRun.{Words, Scope, read_value, word_answer, followed_by, as_value}
-use Rattle.shader_runs.specs.TextRun.{evaluate, evaluate_all, Denotation, IsValue, index_into}
-use Rattle.shader_runs.specs.TextRun.{index_reached, part_picked, logical_reached}
-use Rattle.shader_runs.specs.TextRun.{undecided_reached, value_of}
-use Rattle.shader_runs.specs.Scope.{ModuleNames}
-use Rattle.shader_runs.specs.Form.{constant_form, constant_forms}
-use Rattle.shader_runs.specs.Premises.{EachWord, EachWordOf, EachLeaf, EachLeafOf, IsLiteral}
-use Rattle.shader_runs.specs.Premises.{literal_type, constant_type, constant_types_of}
-use Rattle.shader_runs.specs.Premises.{ConstantTyped, ConstantsTyped}
+use Rattle.shader_runs.proofs.Common.{Bytes, PartTypes, IntegerType, OtherType, type_at, has_type, has_types, Value, Truth}
+use Rattle.shader_runs.proofs.Common.{Whole, Pointer, Opaque, Spelled, Place, place_in, Selector, ShortCircuit, PartWord}
+use Rattle.shader_runs.proofs.Common.{IndexWord, Event, Meaning, World, ConstantTree, Fixed, NamedConstant, Composed}
+use Rattle.shader_runs.proofs.Common.{Indexing, Picking, Joining, ConstantTrees, no_constant, constant, Module, also}
+use Rattle.shader_runs.proofs.Common.{operator_value, tree_value, tree_values, decides, undecided_value, constant_part_by}
+use Rattle.shader_runs.proofs.Common.{constant_index, constant_part, constant_logic, Words, Scope, read_value, word_answer}
+use Rattle.shader_runs.proofs.Common.{followed_by, as_value, evaluate, evaluate_all, Denotation, IsValue, index_into}
+use Rattle.shader_runs.proofs.Common.{index_reached, part_picked, logical_reached, undecided_reached, value_of, ModuleNames}
+use Rattle.shader_runs.proofs.Common.{constant_form, constant_forms, EachWord, EachWordOf, EachLeaf, EachLeafOf, IsLiteral}
+use Rattle.shader_runs.proofs.Common.{literal_type, constant_type, constant_types_of, ConstantTyped, ConstantsTyped, reach}
+use Rattle.shader_runs.proofs.Common.{unless, ReachedOrHalted, Gives}
 use Rattle.shader_runs.proofs.Update.{and_both, same_type_self}
 use Rattle.shader_runs.proofs.Relation.{TypedValue, as_denoted}
 use Rattle.shader_runs.proofs.Evaluation.{denoted, valued_denoted, followed_reached}
-use Rattle.shader_runs.specs.Outcome.{reach, unless, ReachedOrHalted, Gives}
 
 -- what holds of each leaf and of each named constant
 mutual

@@ -7,25 +7,19 @@ use Rattle.std.specs.Prelude.{IsTrue, Bool, not}
 use Rattle.std.specs.List.{list_any}
 use Rattle.std.proofs.lemmas.List.{length-map, length-append, drop-map}
 use Rattle.std.proofs.lemmas.Option.{slice_get_cases, slice_get_within, none-some, same_Some}
-use Rattle.shader_runs.specs.Value.{Bytes, same_bytes, PartTypes, ValueType, type_at, has_type}
-use Rattle.shader_runs.specs.Value.{has_types, Value, Spelled}
-use Rattle.shader_runs.specs.World.{Event, World, Meaning, Settings, Environment, bind}
-use Rattle.shader_runs.specs.Outcome.{Stuck, Gives, Halts, reach, unless}
-use Rattle.shader_runs.specs.Program.{ConstantTree, Module, constant_count, override_types}
-use Rattle.shader_runs.specs.ProgramRun.{also, operator_value, tree_value, constant_value}
-use Rattle.shader_runs.specs.Text.{Tree, TextFunction, TextModule}
-use Rattle.shader_runs.specs.TextRun.{Denotation, Words, Scope, as_value, word_answer}
-use Rattle.shader_runs.specs.TextRun.{with_parameters, with_globals, no_names, names_function}
+use Rattle.shader_runs.proofs.Common.{Bytes, same_bytes, PartTypes, ValueType, type_at, has_type, has_types, Value, Spelled}
+use Rattle.shader_runs.proofs.Common.{Event, World, Meaning, Settings, Environment, bind, Stuck, Gives, Halts, reach}
+use Rattle.shader_runs.proofs.Common.{unless, ConstantTree, Module, constant_count, override_types, also, operator_value}
+use Rattle.shader_runs.proofs.Common.{tree_value, constant_value, Tree, TextFunction, TextModule, Denotation, Words, Scope}
+use Rattle.shader_runs.proofs.Common.{as_value, word_answer, with_parameters, with_globals, no_names, names_function}
+use Rattle.shader_runs.proofs.Common.{ModuleNames, constant_form, names_from, globals_from, constants_from}
+use Rattle.shader_runs.proofs.Common.{form_module_with, OperatesOutside, EachLeaf, EachWord, IsLiteral, ConstantsFit}
+use Rattle.shader_runs.proofs.Common.{ConstantInRange, SettingsFit, EnvironmentFits, IsTyped}
 use Rattle.shader_runs.specs.Constants.{known_value, found_with, found_after, all_found}
 use Rattle.shader_runs.specs.Constants.{environment_of, is_declared, initialised_name}
 use Rattle.shader_runs.specs.Constants.{with_constants, scope_with, initialiser_value, scope_after}
 use Rattle.shader_runs.specs.Constants.{module_scope, initialiser_words, module_initialiser_value}
 use Rattle.shader_runs.specs.Constants.{text_initialiser_value, value_denoted}
-use Rattle.shader_runs.specs.Scope.{ModuleNames}
-use Rattle.shader_runs.specs.Form.{constant_form, names_from, globals_from, constants_from}
-use Rattle.shader_runs.specs.Form.{form_module_with}
-use Rattle.shader_runs.specs.Premises.{OperatesOutside, EachLeaf, EachWord, IsLiteral, ConstantsFit}
-use Rattle.shader_runs.specs.Premises.{ConstantInRange, SettingsFit, EnvironmentFits, IsTyped}
 use Rattle.shader_runs.specs.Correct.{AreNamed, IsSolution, ConstantsAreComputed}
 use Rattle.shader_runs.proofs.Update.{and_both, same_bytes_apart, has_types_length}
 use Rattle.shader_runs.proofs.Relation.{TypedValue, as_denoted}

@@ -3,11 +3,9 @@
 use Rattle.std.proofs.Common.{◌≡◌, ℕ, zero, suc, ◌<◌, ◌≤◌, Bool, true, false}
 use Rattle.std.proofs.Common.{nat_eq, List, ◌∷◌, length, Option, Some, None, refl, ap, ◌∙◌, arith}
 use Rattle.std.proofs.lemmas.Bool.{eq-eqb, ne_eqb}
-use Rattle.shader_runs.specs.Value.{PartTypes, ValueType, has_type, Value}
-use Rattle.shader_runs.specs.World.{Event, Discard, entries, World}
-use Rattle.shader_runs.specs.Outcome.{Stop, Stuck, Unreturned, OutOfTurns, Discarded, Mistyped}
-use Rattle.shader_runs.specs.Outcome.{ReachedOrHalted, Gives, Halts}
-use Rattle.shader_runs.specs.ProgramRun.{EmittedValues}
+use Rattle.shader_runs.proofs.Common.{PartTypes, ValueType, has_type, Value, Event, Discard, entries, World, Stop, Stuck}
+use Rattle.shader_runs.proofs.Common.{Unreturned, OutOfTurns, Discarded, Mistyped, ReachedOrHalted, Gives, Halts}
+use Rattle.shader_runs.proofs.Common.{EmittedValues}
 use Rattle.shader_runs.proofs.Process.{reached_events, Pause, DoneWith, ContinuedWith, BrokeWith}
 use Rattle.shader_runs.proofs.Process.{ReturnedWith, Process, gives, stuck, unreturned, discards}
 use Rattle.shader_runs.proofs.Process.{tells, awaits, looks, sequence, repeats, answered, resumed}

@@ -3,29 +3,20 @@ use Rattle.std.proofs.Common.{◌≡◌, ◌≢◌, ℕ, Bool, true, false, cond
 use Rattle.std.proofs.Common.{Some, None, refl, sym, ap, ◌∙◌, subst, true≢false, eqb-true}
 use Rattle.std.proofs.Common.{option_map}
 use Rattle.std.specs.Prelude.{IsTrue}
-use Rattle.shader_runs.specs.Value.{Bytes, PartTypes, ValueType, has_type, Value, place_in, Place}
-use Rattle.shader_runs.specs.World.{Event, Ask, Read, update, bind}
-use Rattle.shader_runs.specs.Outcome.{Outcome, Done, Next, and_then, ReachedOrHalted, Gives}
-use Rattle.shader_runs.specs.Outcome.{or_stuck, reach, unless}
-use Rattle.shader_runs.specs.Program.{Global, Local, Argument, Constant, Expression, Load, Operator}
-use Rattle.shader_runs.specs.Program.{Access, AccessIndex, Logical, Swizzle, Request, ConstantTrees}
-use Rattle.shader_runs.specs.Program.{expression_of, handle_type, operands_of, is_counted, binds}
-use Rattle.shader_runs.specs.Program.{binds_as, Module, is_pure, is_emittable}
-use Rattle.shader_runs.specs.ProgramRun.{Call, EmittedValues, used_value_as, constant_values}
-use Rattle.shader_runs.specs.ProgramRun.{used_value, used_values, joined_values, combined_value}
-use Rattle.shader_runs.specs.ProgramRun.{computed_value, after_load, after_request, if_counted}
-use Rattle.shader_runs.specs.ProgramRun.{emit_as, emit, store_typed}
-use Rattle.shader_runs.specs.Text.{Apply, Lines}
-use Rattle.shader_runs.specs.TextRun.{Denotation, IsValue, Scope, read_value, as_value, word_answer}
-use Rattle.shader_runs.specs.TextRun.{evaluate_all, value_of, with_value, follow_in_loop, IsPlace}
-use Rattle.shader_runs.specs.Scope.{Availability, Absent, Barred, Everywhere, is_present, is_new}
-use Rattle.shader_runs.specs.Scope.{Inline, Bound, Handles, Names, bound_name, usable, usable_all}
-use Rattle.shader_runs.specs.Scope.{availability_without_name, with_emitted_handle, after_one}
-use Rattle.shader_runs.specs.Scope.{named_after, after_emit}
-use Rattle.shader_runs.specs.Form.{value_form, place_form, value_forms_then, constant_forms}
-use Rattle.shader_runs.specs.Form.{own_form, written_form, let_if, lets}
-use Rattle.shader_runs.specs.Premises.{FixedName, fixed_name, WordFits, LeafFits, LeafTyped}
-use Rattle.shader_runs.specs.Premises.{ConstantsInRange, ConstantsTyped}
+use Rattle.shader_runs.proofs.Common.{Bytes, PartTypes, ValueType, has_type, Value, place_in, Place, Event, Ask, Read}
+use Rattle.shader_runs.proofs.Common.{update, bind, Outcome, Done, Next, and_then, ReachedOrHalted, Gives, or_stuck, reach}
+use Rattle.shader_runs.proofs.Common.{unless, Global, Local, Argument, Constant, Expression, Load, Operator, Access}
+use Rattle.shader_runs.proofs.Common.{AccessIndex, Logical, Swizzle, Request, ConstantTrees, expression_of, handle_type}
+use Rattle.shader_runs.proofs.Common.{operands_of, is_counted, binds, binds_as, Module, is_pure, is_emittable, Call}
+use Rattle.shader_runs.proofs.Common.{EmittedValues, used_value_as, constant_values, used_value, used_values, joined_values}
+use Rattle.shader_runs.proofs.Common.{combined_value, computed_value, after_load, after_request, if_counted, emit_as, emit}
+use Rattle.shader_runs.proofs.Common.{store_typed, Apply, Lines, Denotation, IsValue, Scope, read_value, as_value}
+use Rattle.shader_runs.proofs.Common.{word_answer, evaluate_all, value_of, with_value, follow_in_loop, IsPlace}
+use Rattle.shader_runs.proofs.Common.{Availability, Absent, Barred, Everywhere, is_present, is_new, Inline, Bound, Handles}
+use Rattle.shader_runs.proofs.Common.{Names, bound_name, usable, usable_all, availability_without_name, with_emitted_handle}
+use Rattle.shader_runs.proofs.Common.{after_one, named_after, after_emit, value_form, place_form, value_forms_then}
+use Rattle.shader_runs.proofs.Common.{constant_forms, own_form, written_form, let_if, lets, FixedName, fixed_name, WordFits}
+use Rattle.shader_runs.proofs.Common.{LeafFits, LeafTyped, ConstantsInRange, ConstantsTyped}
 use Rattle.shader_runs.proofs.Alike.{Alike, stopped, typed_alike, placed}
 use Rattle.shader_runs.proofs.Update.{and_left, update_cases, bind_same, bind_other}
 use Rattle.shader_runs.proofs.Relation.{TypedValue, as_denoted, IsHere, NoName, Stands, Related}

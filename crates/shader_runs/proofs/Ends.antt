@@ -2,16 +2,11 @@
 use Rattle.std.proofs.Common.{◌≡◌, ℕ, zero, suc, ◌<◌, Bool, true, false, cond, List, Option, Some}
 use Rattle.std.proofs.Common.{None, refl, sym, ap, ◌∙◌, subst, arith, true≢false}
 use Rattle.std.specs.Prelude.{IsTrue}
-use Rattle.shader_runs.specs.Value.{Value, Truth, Whole}
-use Rattle.shader_runs.specs.World.{Event}
-use Rattle.shader_runs.specs.Outcome.{Outcome, Done, Continued, Broke, Returned, Stopped, Next}
-use Rattle.shader_runs.specs.Outcome.{and_then, and_continue, within, turns, and_again}
-use Rattle.shader_runs.specs.Outcome.{after_switch, branch_by, with_integer, or_stuck}
-use Rattle.shader_runs.specs.Program.{CaseValue, Numbered, Statement, Block, If, Switch, Loop}
-use Rattle.shader_runs.specs.Program.{Statements, end, then, Cases, no_case, case}
-use Rattle.shader_runs.specs.ProgramRun.{Call, EmittedValues, used_value, leave, same_case_value}
-use Rattle.shader_runs.specs.ProgramRun.{has_case_value, case_value_if, run, run_all, run_cases}
-use Rattle.shader_runs.specs.ProgramRun.{run_on}
+use Rattle.shader_runs.proofs.Common.{Value, Truth, Whole, Event, Outcome, Done, Continued, Broke, Returned, Stopped, Next}
+use Rattle.shader_runs.proofs.Common.{and_then, and_continue, within, turns, and_again, after_switch, branch_by}
+use Rattle.shader_runs.proofs.Common.{with_integer, or_stuck, CaseValue, Numbered, Statement, Block, If, Switch, Loop}
+use Rattle.shader_runs.proofs.Common.{Statements, end, then, Cases, no_case, case, Call, EmittedValues, used_value, leave}
+use Rattle.shader_runs.proofs.Common.{same_case_value, has_case_value, case_value_if, run, run_all, run_cases, run_on}
 use Rattle.shader_runs.specs.Passes.{Region, Inner, LoopBody, Continuing, here, following, inside}
 use Rattle.shader_runs.specs.Passes.{after_turns, to_body, to_continuing, body_at, statements_in}
 use Rattle.shader_runs.specs.Passes.{module_turn, FallsTo, this_case, next_case, ComesToCase}

@@ -2,18 +2,13 @@
 use Rattle.std.proofs.Common.{◌≡◌, ℕ, zero, suc, ◌<◌, Bool, true, false, nat_eq, List, [], ◌∷◌}
 use Rattle.std.proofs.Common.{length, Option, Some, None, option_and_then, refl, ap, ◌∙◌, arith}
 use Rattle.std.proofs.lemmas.Bool.{eq-eqb, ne_eqb}
-use Rattle.shader_runs.specs.Value.{Bytes, PartTypes, ValueType, Value, integer_in, place_in}
-use Rattle.shader_runs.specs.Value.{truth_in}
-use Rattle.shader_runs.specs.World.{Event, Entry, Ask, Read, entries, Meaning, Environment}
-use Rattle.shader_runs.specs.Program.{Expression, Load, Request, Action, Asked, Called, CaseValue}
-use Rattle.shader_runs.specs.Program.{Numbered, Statement, Emit, Store, Block, If, Switch, Loop}
-use Rattle.shader_runs.specs.Program.{Break, Continue, Return, Barrier, Act, Statements, end, then}
-use Rattle.shader_runs.specs.Program.{Cases, no_case, case, Function, argument_count, expression_of}
-use Rattle.shader_runs.specs.Program.{handle_type, is_counted, from, Jumps}
-use Rattle.shader_runs.specs.ProgramRun.{Call, EmittedValues, constant_values, used_value}
-use Rattle.shader_runs.specs.ProgramRun.{used_values, joined_values, barrier_words, same_case_value}
-use Rattle.shader_runs.specs.ProgramRun.{has_case_value, case_value_if, constants_at_start}
-use Rattle.shader_runs.specs.ProgramRun.{first_used_all}
+use Rattle.shader_runs.proofs.Common.{Bytes, PartTypes, ValueType, Value, integer_in, place_in, truth_in, Event, Entry, Ask}
+use Rattle.shader_runs.proofs.Common.{Read, entries, Meaning, Environment, Expression, Load, Request, Action, Asked, Called}
+use Rattle.shader_runs.proofs.Common.{CaseValue, Numbered, Statement, Emit, Store, Block, If, Switch, Loop, Break, Continue}
+use Rattle.shader_runs.proofs.Common.{Return, Barrier, Act, Statements, end, then, Cases, no_case, case, Function}
+use Rattle.shader_runs.proofs.Common.{argument_count, expression_of, handle_type, is_counted, from, Jumps, Call}
+use Rattle.shader_runs.proofs.Common.{EmittedValues, constant_values, used_value, used_values, joined_values, barrier_words}
+use Rattle.shader_runs.proofs.Common.{same_case_value, has_case_value, case_value_if, constants_at_start, first_used_all}
 use Rattle.shader_runs.proofs.Process.{Pause, DoneWith, ContinuedWith, BrokeWith, ReturnedWith}
 use Rattle.shader_runs.proofs.Process.{Process, gives, stuck, looks, sequence, then_on, continue_on}
 use Rattle.shader_runs.proofs.Process.{inside, following_switch, on_there, if_true, on_truth}

@@ -2,28 +2,19 @@
 use Rattle.std.proofs.Common.{◌≡◌, ℕ, Bool, true, false, cond, List, [], ◌∷◌, Option, Some, None}
 use Rattle.std.proofs.Common.{refl, sym, ap, ◌∙◌, true≢false, ℤ, option_map, subst}
 use Rattle.std.specs.Prelude.{option_and_then, IsTrue}
-use Rattle.shader_runs.specs.Value.{Bytes, PartTypes, element_place, place_to, Selector, MemberNamed}
-use Rattle.shader_runs.specs.Value.{ValueType, PointerType, has_type, has_types, Value, Truth}
-use Rattle.shader_runs.specs.Value.{Whole, Pointer, Spelled, PartWord, IndexWord, ShortCircuit}
-use Rattle.shader_runs.specs.Value.{truth_in, integer_in, place_in, Place, type_of}
-use Rattle.shader_runs.specs.World.{Event, Ask, World, Meaning}
-use Rattle.shader_runs.specs.Outcome.{ReachedOrHalted, Gives, reach, unless}
-use Rattle.shader_runs.specs.Program.{Module, Function, function_numbered, Expression}
-use Rattle.shader_runs.specs.ProgramRun.{Call, EmittedValues, used_value, also, used_values}
-use Rattle.shader_runs.specs.ProgramRun.{operator_value, index_value_of, part_value, swizzle_value}
-use Rattle.shader_runs.specs.ProgramRun.{decides, undecided_value, combined_value, gathered_value}
-use Rattle.shader_runs.specs.ProgramRun.{index_value_by, part_value_by}
-use Rattle.shader_runs.specs.Text.{Index, PartOf, LogicalOf}
-use Rattle.shader_runs.specs.TextRun.{part_reached, index_reached, index_into, part_picked}
-use Rattle.shader_runs.specs.TextRun.{undecided_reached, logical_reached, Denotation, IsValue}
-use Rattle.shader_runs.specs.TextRun.{IsPlace, place_picked, Words, Scope, read_value, word_answer}
-use Rattle.shader_runs.specs.TextRun.{as_value, dereference, address_reached, put_before}
-use Rattle.shader_runs.specs.TextRun.{followed_by, evaluate, evaluate_all, value_of, AsksForEvent}
-use Rattle.shader_runs.specs.TextRun.{Operates, respond_by_use}
-use Rattle.shader_runs.specs.Scope.{Names, Naming}
-use Rattle.shader_runs.specs.Form.{Plain, AsValue, AsPlace, value_form, place_form, value_forms}
-use Rattle.shader_runs.specs.Form.{access_form, part_form}
-use Rattle.shader_runs.specs.Premises.{IsNoPointer, OperatesBy, AsksBy}
+use Rattle.shader_runs.proofs.Common.{Bytes, PartTypes, element_place, place_to, Selector, MemberNamed, ValueType}
+use Rattle.shader_runs.proofs.Common.{PointerType, has_type, has_types, Value, Truth, Whole, Pointer, Spelled, PartWord}
+use Rattle.shader_runs.proofs.Common.{IndexWord, ShortCircuit, truth_in, integer_in, place_in, Place, type_of, Event, Ask}
+use Rattle.shader_runs.proofs.Common.{World, Meaning, ReachedOrHalted, Gives, reach, unless, Module, Function}
+use Rattle.shader_runs.proofs.Common.{function_numbered, Expression, Call, EmittedValues, used_value, also, used_values}
+use Rattle.shader_runs.proofs.Common.{operator_value, index_value_of, part_value, swizzle_value, decides, undecided_value}
+use Rattle.shader_runs.proofs.Common.{combined_value, gathered_value, index_value_by, part_value_by, Index, PartOf}
+use Rattle.shader_runs.proofs.Common.{LogicalOf, part_reached, index_reached, index_into, part_picked, undecided_reached}
+use Rattle.shader_runs.proofs.Common.{logical_reached, Denotation, IsValue, IsPlace, place_picked, Words, Scope, read_value}
+use Rattle.shader_runs.proofs.Common.{word_answer, as_value, dereference, address_reached, put_before, followed_by}
+use Rattle.shader_runs.proofs.Common.{evaluate, evaluate_all, value_of, AsksForEvent, Operates, respond_by_use, Names}
+use Rattle.shader_runs.proofs.Common.{Naming, Plain, AsValue, AsPlace, value_form, place_form, value_forms, access_form}
+use Rattle.shader_runs.proofs.Common.{part_form, IsNoPointer, OperatesBy, AsksBy}
 use Rattle.shader_runs.proofs.Update.{same_type_true}
 use Rattle.shader_runs.proofs.Alike.{Answers, placed}
 use Rattle.shader_runs.proofs.Relation.{Returns, as_denoted}

@@ -4,35 +4,25 @@ use Rattle.std.proofs.Common.{length, Option, Some, None, slice_get, refl, sym, 
 use Rattle.std.proofs.Common.{true≢false, arith, ltb-true}
 use Rattle.std.specs.Prelude.{IsTrue}
 use Rattle.std.proofs.lemmas.Option.{slice_get_within, same_Some, none-some}
-use Rattle.shader_runs.specs.Value.{Bytes, PartTypes, AtOrigin, GlobalOrigin, LocalOrigin, Selector}
-use Rattle.shader_runs.specs.Value.{ShortCircuit, ValueType, PointerType, type_at, has_type}
-use Rattle.shader_runs.specs.Value.{has_types, Value, Pointer, Spelled}
-use Rattle.shader_runs.specs.World.{Event, GlobalValue, Stored, InHandleSpace, Environment, Meaning}
-use Rattle.shader_runs.specs.Program.{ConstantTree, ConstantTrees, Expression, Constant, Argument}
-use Rattle.shader_runs.specs.Program.{Local, Global, Load, Operator, Access, AccessIndex, Logical}
-use Rattle.shader_runs.specs.Program.{Swizzle, Request, Result, argument_count, local_count}
-use Rattle.shader_runs.specs.Program.{local_pointer, expression_of, handle_type, operands_of}
-use Rattle.shader_runs.specs.Program.{VariableShape, Held, AtPlace, is_held, variable_type}
-use Rattle.shader_runs.specs.Program.{variable_shape_at, Module, is_pure}
-use Rattle.shader_runs.specs.ProgramRun.{Call, EmittedValues, constant_value, constant_values}
-use Rattle.shader_runs.specs.ProgramRun.{global_value, used_value_as, used_value, also, used_values}
-use Rattle.shader_runs.specs.ProgramRun.{joined_values, operator_value, combined_value}
-use Rattle.shader_runs.specs.ProgramRun.{gathered_value, computed_value}
-use Rattle.shader_runs.specs.Text.{Name}
-use Rattle.shader_runs.specs.TextRun.{Scope, word_answer, followed_by, as_value, evaluate}
-use Rattle.shader_runs.specs.TextRun.{evaluate_all, value_of}
-use Rattle.shader_runs.specs.Scope.{Availability, Absent, Barred, Everywhere, Inline, Bound}
-use Rattle.shader_runs.specs.Scope.{Handles, Names, usable, usable_as, usable_all, is_present}
-use Rattle.shader_runs.specs.Form.{Plain, AsValue, AsPlace, value_form, place_form}
-use Rattle.shader_runs.specs.Form.{value_forms_then, constant_form, constant_forms, global_form}
-use Rattle.shader_runs.specs.Form.{own_form, availability_form, written_below, written_form}
-use Rattle.shader_runs.specs.Premises.{FixedName, FixedKey, NumberedKey, NamedKey, IsFixedName}
-use Rattle.shader_runs.specs.Premises.{IsNoName, ConstantWords, ConstantsWords, WordFits, AllBelow}
-use Rattle.shader_runs.specs.Premises.{constant_type, constant_types_of, ConstantInRange}
-use Rattle.shader_runs.specs.Premises.{ConstantsInRange, LeafFits, ConstantTyped, ConstantsTyped}
-use Rattle.shader_runs.specs.Premises.{LeafTyped, handle_types, IsTypedIn, ConstantName}
-use Rattle.shader_runs.specs.Premises.{ArgumentName, LocalName, GlobalName, global_fits}
-use Rattle.shader_runs.specs.Premises.{globals_fit, EnvironmentFits, OperatesBy}
+use Rattle.shader_runs.proofs.Common.{Bytes, PartTypes, AtOrigin, GlobalOrigin, LocalOrigin, Selector, ShortCircuit}
+use Rattle.shader_runs.proofs.Common.{ValueType, PointerType, type_at, has_type, has_types, Value, Pointer, Spelled, Event}
+use Rattle.shader_runs.proofs.Common.{GlobalValue, Stored, InHandleSpace, Environment, Meaning, ConstantTree, ConstantTrees}
+use Rattle.shader_runs.proofs.Common.{Expression, Constant, Argument, Local, Global, Load, Operator, Access, AccessIndex}
+use Rattle.shader_runs.proofs.Common.{Logical, Swizzle, Request, Result, argument_count, local_count, local_pointer}
+use Rattle.shader_runs.proofs.Common.{expression_of, handle_type, operands_of, VariableShape, Held, AtPlace, is_held}
+use Rattle.shader_runs.proofs.Common.{variable_type, variable_shape_at, Module, is_pure, Call, EmittedValues}
+use Rattle.shader_runs.proofs.Common.{constant_value, constant_values, global_value, used_value_as, used_value, also}
+use Rattle.shader_runs.proofs.Common.{used_values, joined_values, operator_value, combined_value, gathered_value}
+use Rattle.shader_runs.proofs.Common.{computed_value, Name, Scope, word_answer, followed_by, as_value, evaluate}
+use Rattle.shader_runs.proofs.Common.{evaluate_all, value_of, Availability, Absent, Barred, Everywhere, Inline, Bound}
+use Rattle.shader_runs.proofs.Common.{Handles, Names, usable, usable_as, usable_all, is_present, Plain, AsValue, AsPlace}
+use Rattle.shader_runs.proofs.Common.{value_form, place_form, value_forms_then, constant_form, constant_forms, global_form}
+use Rattle.shader_runs.proofs.Common.{own_form, availability_form, written_below, written_form, FixedName, FixedKey}
+use Rattle.shader_runs.proofs.Common.{NumberedKey, NamedKey, IsFixedName, IsNoName, ConstantWords, ConstantsWords, WordFits}
+use Rattle.shader_runs.proofs.Common.{AllBelow, constant_type, constant_types_of, ConstantInRange, ConstantsInRange}
+use Rattle.shader_runs.proofs.Common.{LeafFits, ConstantTyped, ConstantsTyped, LeafTyped, handle_types, IsTypedIn}
+use Rattle.shader_runs.proofs.Common.{ConstantName, ArgumentName, LocalName, GlobalName, global_fits, globals_fit}
+use Rattle.shader_runs.proofs.Common.{EnvironmentFits, OperatesBy, reach, unless}
 use Rattle.shader_runs.proofs.Alike.{placed}
 use Rattle.shader_runs.proofs.Update.{and_left, and_right, and_both, same_type_self}
 use Rattle.shader_runs.proofs.Update.{has_types_length}
@@ -44,7 +34,6 @@ use Rattle.shader_runs.proofs.Evaluation.{followed_reached, value_forms_give, ap
 use Rattle.shader_runs.proofs.Evaluation.{OneOf, one_of, TwoOf, two_of, one_there, two_there}
 use Rattle.shader_runs.proofs.Evaluation.{access_means, part_means, swizzle_means, logical_means}
 use Rattle.shader_runs.proofs.ConstantTrees.{tree_typed, trees_typed, tree_gives, trees_give}
-use Rattle.shader_runs.specs.Outcome.{reach, unless}
 
 -- what a call owes to its function's text
 pub record Facts (p : Module) (c : Call) (n : Names) (d : Respond) : Type 0 where

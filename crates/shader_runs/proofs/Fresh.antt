@@ -2,21 +2,14 @@
 use Rattle.std.proofs.Common.{◌≡◌, ⊎_elim, ℕ, suc, ◌<◌, ◌≤◌, Bool, true, false, cond, not, List, []}
 use Rattle.std.proofs.Common.{◌∷◌, Option, Some, None, ◌&&◌, ◌||◌, sym, ap, ◌∙◌, true≢false, arith}
 use Rattle.std.specs.Prelude.{IsTrue}
-use Rattle.shader_runs.specs.Value.{Bytes}
-use Rattle.shader_runs.specs.Program.{Expression, Statement, Emit, Store, Block, If, Switch, Loop}
-use Rattle.shader_runs.specs.Program.{Return, Barrier, Act, Statements, end, then, Cases, no_case}
-use Rattle.shader_runs.specs.Program.{case, expression_of, operands_of, is_named, binds, from}
-use Rattle.shader_runs.specs.Program.{Module, is_emittable, Jumps}
-use Rattle.shader_runs.specs.ProgramRun.{Call}
-use Rattle.shader_runs.specs.Scope.{Availability, Bound, Handles, Names, bound_name, usable}
-use Rattle.shader_runs.specs.Scope.{usable_all, usable_if, is_new, after_one, named_after}
-use Rattle.shader_runs.specs.Scope.{named_after_all, named_by, named_by_all, named_by_cases, after}
-use Rattle.shader_runs.specs.Scope.{after_all, at_start, may_emit, may_emit_all, may_give, fits}
-use Rattle.shader_runs.specs.Scope.{fits_all, fits_cases}
-use Rattle.shader_runs.specs.Premises.{FixedKey, NumberedKey, NamedKey, AreDistinct}
-use Rattle.shader_runs.specs.Premises.{EnvironmentFits, ResultFits, IsRegular, AreRegular}
-use Rattle.shader_runs.specs.Premises.{CasesAreRegular, OnlyEmptyFalls, OnlyEmptyFallIn}
-use Rattle.shader_runs.specs.Premises.{OnlyEmptyCasesFall}
+use Rattle.shader_runs.proofs.Common.{Bytes, Expression, Statement, Emit, Store, Block, If, Switch, Loop, Return, Barrier}
+use Rattle.shader_runs.proofs.Common.{Act, Statements, end, then, Cases, no_case, case, expression_of, operands_of}
+use Rattle.shader_runs.proofs.Common.{is_named, binds, from, Module, is_emittable, Jumps, Call, Availability, Bound}
+use Rattle.shader_runs.proofs.Common.{Handles, Names, bound_name, usable, usable_all, usable_if, is_new, after_one}
+use Rattle.shader_runs.proofs.Common.{named_after, named_after_all, named_by, named_by_all, named_by_cases, after}
+use Rattle.shader_runs.proofs.Common.{after_all, at_start, may_emit, may_emit_all, may_give, fits, fits_all, fits_cases}
+use Rattle.shader_runs.proofs.Common.{FixedKey, NumberedKey, NamedKey, AreDistinct, EnvironmentFits, ResultFits, IsRegular}
+use Rattle.shader_runs.proofs.Common.{AreRegular, CasesAreRegular, OnlyEmptyFalls, OnlyEmptyFallIn, OnlyEmptyCasesFall}
 use Rattle.shader_runs.proofs.Update.{and_left, and_right}
 use Rattle.shader_runs.proofs.Evaluation.{naming}
 use Rattle.shader_runs.proofs.Form.{in_range}

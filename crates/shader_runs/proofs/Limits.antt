@@ -2,10 +2,8 @@
 -- all events that it makes with fewer.
 use Rattle.std.proofs.Common.{◌≡◌, ℕ, zero, suc, ◌<◌, ◌≤◌, ◌⊎◌, inl, inr, List, ◌∷◌, length}
 use Rattle.std.proofs.Common.{refl, sym, ap, ◌∙◌, subst, arith}
-use Rattle.shader_runs.specs.Value.{PartTypes, ValueType, Value}
-use Rattle.shader_runs.specs.World.{Event, entries}
-use Rattle.shader_runs.specs.Outcome.{Stop, OutOfTurns, ReachedOrHalted, Gives, Halts}
-use Rattle.shader_runs.specs.ProgramRun.{EmittedValues}
+use Rattle.shader_runs.proofs.Common.{PartTypes, ValueType, Value, Event, entries, Stop, OutOfTurns, ReachedOrHalted, Gives}
+use Rattle.shader_runs.proofs.Common.{Halts, EmittedValues}
 use Rattle.shader_runs.proofs.Process.{Pause, DoneWith, ContinuedWith, BrokeWith, ReturnedWith}
 use Rattle.shader_runs.proofs.Process.{Process, gives, stuck, unreturned, discards, tells, awaits}
 use Rattle.shader_runs.proofs.Process.{looks, sequence, repeats, resumed}

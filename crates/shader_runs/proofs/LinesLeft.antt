@@ -2,21 +2,13 @@
 -- the names in scope.
 use Rattle.std.proofs.Common.{◌≡◌, ℕ, suc, Bool, true, false, cond, ◌||◌, List, [], ◌∷◌, ◌++◌}
 use Rattle.std.proofs.Common.{Option, Some, None, refl, sym, ap, ◌∙◌}
-use Rattle.shader_runs.specs.Value.{Bytes}
-use Rattle.shader_runs.specs.World.{bind}
-use Rattle.shader_runs.specs.Program.{Statement, Emit, Block, If, Switch, Loop, Continue, Barrier}
-use Rattle.shader_runs.specs.Program.{Act, Statements, end, then, Cases, no_case, case, CaseValue}
-use Rattle.shader_runs.specs.Program.{expression_of, binds, from, holds_continue, any_continue}
-use Rattle.shader_runs.specs.Program.{some_case_continues, Jumps}
-use Rattle.shader_runs.specs.ProgramRun.{barrier_words}
-use Rattle.shader_runs.specs.Scope.{Handles, Naming, bound_name, named_after, named_by}
-use Rattle.shader_runs.specs.Scope.{named_by_all, after_one, after, after_all}
-use Rattle.shader_runs.specs.Text.{Tree, Lines}
-use Rattle.shader_runs.specs.TextRun.{some_continue, some_group_continues}
-use Rattle.shader_runs.specs.Form.{value_form, own_form, written_form, let_if, lets, perform_each}
-use Rattle.shader_runs.specs.Form.{form, form_all, form_cases, value_if}
-use Rattle.shader_runs.specs.Premises.{FallsEmpty, OnlyEmptyFalls, OnlyEmptyFallIn}
-use Rattle.shader_runs.specs.Premises.{OnlyEmptyCasesFall}
+use Rattle.shader_runs.proofs.Common.{Bytes, bind, Statement, Emit, Block, If, Switch, Loop, Continue, Barrier, Act}
+use Rattle.shader_runs.proofs.Common.{Statements, end, then, Cases, no_case, case, CaseValue, expression_of, binds, from}
+use Rattle.shader_runs.proofs.Common.{holds_continue, any_continue, some_case_continues, Jumps, barrier_words, Handles}
+use Rattle.shader_runs.proofs.Common.{Naming, bound_name, named_after, named_by, named_by_all, after_one, after, after_all}
+use Rattle.shader_runs.proofs.Common.{Tree, Lines, some_continue, some_group_continues, value_form, own_form, written_form}
+use Rattle.shader_runs.proofs.Common.{let_if, lets, perform_each, form, form_all, form_cases, value_if, FallsEmpty}
+use Rattle.shader_runs.proofs.Common.{OnlyEmptyFalls, OnlyEmptyFallIn, OnlyEmptyCasesFall}
 use Rattle.shader_runs.specs.Resolution.{LetTarget, Lookup, lets_following_all}
 use Rattle.shader_runs.specs.Resolution.{lets_following_groups, names_left, lets_after}
 use Rattle.shader_runs.specs.Resolution.{lets_after_all, lets_by, lets_by_all, lets_by_cases}

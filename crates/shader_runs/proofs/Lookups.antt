@@ -5,27 +5,19 @@ use Rattle.std.proofs.Common.{cond, ◌&&◌, List, [], ◌∷◌, map, take, le
 use Rattle.std.proofs.Common.{refl, sym, ap, subst, ◌∙◌, true≢false, arith, nat_eq}
 use Rattle.std.specs.Prelude.{IsTrue}
 use Rattle.std.proofs.lemmas.Bool.{ltb-true, eqb-false}
-use Rattle.shader_runs.specs.Value.{Bytes, ValueType}
-use Rattle.shader_runs.specs.World.{update, bind}
-use Rattle.shader_runs.specs.Program.{ConstantTree, ConstantTrees, Expression, Constant, Argument}
-use Rattle.shader_runs.specs.Program.{Local, Global, Operator, Access, AccessIndex, Logical}
-use Rattle.shader_runs.specs.Program.{Swizzle, Asked, Statement, Emit, Block, If, Switch, Loop, Act}
-use Rattle.shader_runs.specs.Program.{Statements, end, then, argument_count, local_count}
-use Rattle.shader_runs.specs.Program.{expression_of, handle_type, operands_of, is_named, binds}
-use Rattle.shader_runs.specs.Program.{from, holds_continue, Module, is_pure}
-use Rattle.shader_runs.specs.Scope.{Bound, Handles, Naming, at_start, start_availability}
-use Rattle.shader_runs.specs.Scope.{bound_name, is_present, usable_as, usable_if, usable_all}
-use Rattle.shader_runs.specs.Scope.{all_constant, constant_test, is_constant_below}
-use Rattle.shader_runs.specs.Scope.{availability_without_name, with_emitted_handle, named_after}
-use Rattle.shader_runs.specs.Scope.{named_after_all, named_by, named_by_all, after_one, after_emit}
-use Rattle.shader_runs.specs.Scope.{after_result, after, after_all, forgotten_if, before_local}
-use Rattle.shader_runs.specs.Form.{constant_form, constant_forms, written_form, value_if}
-use Rattle.shader_runs.specs.Form.{names_from}
-use Rattle.shader_runs.specs.Premises.{FixedName, ArgumentName, LocalName, ConstantName, GlobalName}
-use Rattle.shader_runs.specs.Premises.{NameKey, FixedKey, NumberedKey, NamedKey, fixed_name}
-use Rattle.shader_runs.specs.Premises.{name_at, IsFixedName, IsName, IsNoName, StandsFree}
-use Rattle.shader_runs.specs.Premises.{OperatesBy, ConstantWords, ConstantsWords, ConstantInRange}
-use Rattle.shader_runs.specs.Premises.{ConstantsInRange, WordFits, LeafFits, AreDistinct}
+use Rattle.shader_runs.proofs.Common.{Bytes, ValueType, update, bind, ConstantTree, ConstantTrees, Expression, Constant}
+use Rattle.shader_runs.proofs.Common.{Argument, Local, Global, Operator, Access, AccessIndex, Logical, Swizzle, Asked}
+use Rattle.shader_runs.proofs.Common.{Statement, Emit, Block, If, Switch, Loop, Act, Statements, end, then, argument_count}
+use Rattle.shader_runs.proofs.Common.{local_count, expression_of, handle_type, operands_of, is_named, binds, from}
+use Rattle.shader_runs.proofs.Common.{holds_continue, Module, is_pure, Bound, Handles, Naming, at_start, start_availability}
+use Rattle.shader_runs.proofs.Common.{bound_name, is_present, usable_as, usable_if, usable_all, all_constant, constant_test}
+use Rattle.shader_runs.proofs.Common.{is_constant_below, availability_without_name, with_emitted_handle, named_after}
+use Rattle.shader_runs.proofs.Common.{named_after_all, named_by, named_by_all, after_one, after_emit, after_result, after}
+use Rattle.shader_runs.proofs.Common.{after_all, forgotten_if, before_local, constant_form, constant_forms, written_form}
+use Rattle.shader_runs.proofs.Common.{value_if, names_from, FixedName, ArgumentName, LocalName, ConstantName, GlobalName}
+use Rattle.shader_runs.proofs.Common.{NameKey, FixedKey, NumberedKey, NamedKey, fixed_name, name_at, IsFixedName, IsName}
+use Rattle.shader_runs.proofs.Common.{IsNoName, StandsFree, OperatesBy, ConstantWords, ConstantsWords, ConstantInRange}
+use Rattle.shader_runs.proofs.Common.{ConstantsInRange, WordFits, LeafFits, AreDistinct}
 use Rattle.shader_runs.specs.Resolution.{Target, ConstantTarget, GlobalTarget, FunctionTarget}
 use Rattle.shader_runs.specs.Resolution.{ArgumentTarget, LocalTarget, LetTarget, Lookup}
 use Rattle.shader_runs.specs.Resolution.{tree_targets, trees_targets, tree_targets_if, with_items}

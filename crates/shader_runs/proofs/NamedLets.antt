@@ -2,17 +2,12 @@
 use Rattle.std.proofs.Common.{◌≡◌, ℕ, Bool, true, false, cond, List, [], ◌∷◌, ◌++◌, map, Option}
 use Rattle.std.proofs.Common.{Some, None, refl, sym, ap, ◌∙◌}
 use Rattle.std.proofs.lemmas.List.{map-append}
-use Rattle.shader_runs.specs.Value.{Bytes}
-use Rattle.shader_runs.specs.Program.{Statement, Emit, Block, If, Switch, Loop, Barrier, Act}
-use Rattle.shader_runs.specs.Program.{Statements, end, then, Cases, no_case, case, CaseValue}
-use Rattle.shader_runs.specs.Program.{expression_of, binds, from}
-use Rattle.shader_runs.specs.ProgramRun.{barrier_words}
-use Rattle.shader_runs.specs.Scope.{Handles, Naming, bound_name, at_start, named_after, named_by}
-use Rattle.shader_runs.specs.Scope.{named_by_all, after_one, after, after_all}
-use Rattle.shader_runs.specs.Text.{Tree, Trees, Lines, before}
-use Rattle.shader_runs.specs.Form.{value_form, value_forms, own_form, written_form, let_if, lets}
-use Rattle.shader_runs.specs.Form.{word_of, act_line, perform_each, form, form_all, form_cases}
-use Rattle.shader_runs.specs.Form.{form_functions}
+use Rattle.shader_runs.proofs.Common.{Bytes, Statement, Emit, Block, If, Switch, Loop, Barrier, Act, Statements, end, then}
+use Rattle.shader_runs.proofs.Common.{Cases, no_case, case, CaseValue, expression_of, binds, from, barrier_words, Handles}
+use Rattle.shader_runs.proofs.Common.{Naming, bound_name, at_start, named_after, named_by, named_by_all, after_one, after}
+use Rattle.shader_runs.proofs.Common.{after_all, Tree, Trees, Lines, before, value_form, value_forms, own_form}
+use Rattle.shader_runs.proofs.Common.{written_form, let_if, lets, word_of, act_line, perform_each, form, form_all}
+use Rattle.shader_runs.proofs.Common.{form_cases, form_functions}
 use Rattle.shader_runs.specs.NamedLets.{lines_lets, groups_lets, NamedLet, emit_named_lets}
 use Rattle.shader_runs.specs.NamedLets.{result_named_lets, statement_named_lets}
 use Rattle.shader_runs.specs.NamedLets.{statements_named_lets, cases_named_lets, bound_names}

@@ -3,20 +3,14 @@ use Rattle.std.proofs.Common.{◌≡◌, ◌≢◌, ℕ, zero, suc, ◌+◌, ◌
 use Rattle.std.proofs.Common.{false, length, Option, Some, None, ◌||◌, slice_get, refl, sym, ap}
 use Rattle.std.proofs.Common.{◌∙◌, true≢false, arith, map}
 use Rattle.std.specs.Prelude.{IsTrue}
-use Rattle.shader_runs.specs.Value.{Bytes, same_bytes, PartTypes, AtOrigin, GlobalOrigin, LocalOrigin}
-use Rattle.shader_runs.specs.Value.{PointerType, Value}
-use Rattle.shader_runs.specs.World.{GlobalValue, Stored, InHandleSpace, bind, Environment}
-use Rattle.shader_runs.specs.Program.{local_pointer, VariableShape, Held, AtPlace, pointer_to}
-use Rattle.shader_runs.specs.Program.{Module}
-use Rattle.shader_runs.specs.TextRun.{names_function, Denotation, IsValue, IsPlace, Scope}
-use Rattle.shader_runs.specs.TextRun.{with_parameters, with_variables, with_globals, global_denoted}
-use Rattle.shader_runs.specs.TextRun.{no_names}
-use Rattle.shader_runs.specs.Scope.{Naming, ModuleNames}
-use Rattle.shader_runs.specs.Form.{names_from, variables_from, globals_from, functions_of}
-use Rattle.shader_runs.specs.Form.{form_functions}
-use Rattle.shader_runs.specs.Premises.{choice_fits, choices_fit, global_fits, globals_fit, AllFit}
+use Rattle.shader_runs.proofs.Common.{Bytes, same_bytes, PartTypes, AtOrigin, GlobalOrigin, LocalOrigin, PointerType, Value}
+use Rattle.shader_runs.proofs.Common.{GlobalValue, Stored, InHandleSpace, bind, Environment, local_pointer, VariableShape}
+use Rattle.shader_runs.proofs.Common.{Held, AtPlace, pointer_to, Module, names_function, Denotation, IsValue, IsPlace}
+use Rattle.shader_runs.proofs.Common.{Scope, with_parameters, with_variables, with_globals, global_denoted, no_names}
+use Rattle.shader_runs.proofs.Common.{Naming, ModuleNames, names_from, variables_from, globals_from, functions_of}
+use Rattle.shader_runs.proofs.Common.{form_functions, choice_fits, choices_fit, global_fits, globals_fit, AllFit}
+use Rattle.shader_runs.proofs.Common.{TextFunction}
 use Rattle.shader_runs.specs.Correct.{AreNamed, ItemsFit, ModuleFits}
-use Rattle.shader_runs.specs.Text.{TextFunction}
 use Rattle.shader_runs.proofs.Update.{and_left, and_right, and_both, same_bytes_true}
 use Rattle.shader_runs.proofs.Update.{same_bytes_apart, same_type_self, bind_same, bind_other}
 use Rattle.shader_runs.proofs.Relation.{as_denoted, stored_denoted, global_as}

@@ -9,23 +9,16 @@ use Rattle.std.proofs.lemmas.List.{length-append}
 use Rattle.std.proofs.lemmas.Option.{none-some, same_Some}
 use Rattle.std.proofs.lemmas.Bool.{eq-eqb, eqb-false, ne_eqb}
 use Rattle.std.specs.Prelude.{IsTrue, ◌||◌}
-use Rattle.shader_runs.specs.Value.{Bytes, same_bytes, PartTypes, has_types, Value}
-use Rattle.shader_runs.specs.World.{Event, World, Meaning, Environment, Settings}
-use Rattle.shader_runs.specs.Outcome.{ReachedOrHalted}
-use Rattle.shader_runs.specs.Program.{Function, argument_count, function_numbered, Module}
-use Rattle.shader_runs.specs.ProgramRun.{Call, run_if_arguments_fit, run_body, run_call}
+use Rattle.shader_runs.proofs.Common.{Bytes, same_bytes, PartTypes, has_types, Value, Event, World, Meaning, Environment}
+use Rattle.shader_runs.proofs.Common.{Settings, ReachedOrHalted, Function, argument_count, function_numbered, Module, Call}
+use Rattle.shader_runs.proofs.Common.{run_if_arguments_fit, run_body, run_call, Scope, WordUse, NamesFunction, AsksForEvent}
+use Rattle.shader_runs.proofs.Common.{Operates, MeansNothing, is_operation, names_function, word_use, follow_call}
+use Rattle.shader_runs.proofs.Common.{ModuleNames, Naming, form_function, form_functions, form_module, form_module_with}
+use Rattle.shader_runs.proofs.Common.{functions_of, AllFit, EnvironmentFits, AllTypedIn, SettingsFit, IsTyped}
+use Rattle.shader_runs.proofs.Common.{ModuleNamesAreDistinct, TextFunction}
 use Rattle.shader_runs.proofs.Callees.{body_runs}
-use Rattle.shader_runs.specs.TextRun.{Scope, WordUse, NamesFunction, AsksForEvent, Operates}
-use Rattle.shader_runs.specs.TextRun.{MeansNothing, is_operation, names_function, word_use}
-use Rattle.shader_runs.specs.TextRun.{follow_call}
-use Rattle.shader_runs.specs.Scope.{ModuleNames, Naming}
-use Rattle.shader_runs.specs.Form.{form_function, form_functions, form_module, form_module_with}
-use Rattle.shader_runs.specs.Form.{functions_of}
-use Rattle.shader_runs.specs.Premises.{AllFit, EnvironmentFits, AllTypedIn, SettingsFit, IsTyped}
-use Rattle.shader_runs.specs.Premises.{ModuleNamesAreDistinct}
 use Rattle.shader_runs.specs.Correct.{AreNamed, InitialisersAreAlike, ItemsFit, KeepsTypes, OneFits}
 use Rattle.shader_runs.specs.Correct.{OneRunsAlike, RunsAlike}
-use Rattle.shader_runs.specs.Text.{TextFunction}
 use Rattle.shader_runs.specs.Constants.{environment_of, follow_module, module_scope, run_module}
 use Rattle.shader_runs.proofs.Alike.{Answers, same_answer, mistyped_answer}
 use Rattle.shader_runs.proofs.Update.{same_bytes_equal, same_bytes_apart, same_bytes_self}

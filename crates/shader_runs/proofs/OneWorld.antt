@@ -6,16 +6,11 @@ use Rattle.std.proofs.Common.{Option, Some, None, refl, sym, ap, ◌∙◌, subs
 use Rattle.std.specs.Prelude.{IsTrue, false}
 use Rattle.std.specs.Option.{option_map_or}
 use Rattle.std.proofs.lemmas.Bool.{cases_lt}
-use Rattle.shader_runs.specs.Value.{ValueType, has_types, Value, Truth}
-use Rattle.shader_runs.specs.World.{Event, Entry, Ask, Read, Write, Discard, entries, World}
-use Rattle.shader_runs.specs.World.{Meaning, Environment, Settings}
-use Rattle.shader_runs.specs.Outcome.{Mistyped, ReachedOrHalted, Gives, Halts}
-use Rattle.shader_runs.specs.Program.{Function, function_numbered, Module}
+use Rattle.shader_runs.proofs.Common.{ValueType, has_types, Value, Truth, Event, Entry, Ask, Read, Write, Discard, entries}
+use Rattle.shader_runs.proofs.Common.{World, Meaning, Environment, Settings, Mistyped, ReachedOrHalted, Gives, Halts}
+use Rattle.shader_runs.proofs.Common.{Function, function_numbered, Module, word_use, ModuleNames, Naming, form_module}
+use Rattle.shader_runs.proofs.Common.{SettingsFit, IsTyped}
 use Rattle.shader_runs.specs.Constants.{environment_of, module_scope, follow_module, run_module}
-use Rattle.shader_runs.specs.TextRun.{word_use}
-use Rattle.shader_runs.specs.Scope.{ModuleNames, Naming}
-use Rattle.shader_runs.specs.Form.{form_module}
-use Rattle.shader_runs.specs.Premises.{SettingsFit, IsTyped}
 use Rattle.shader_runs.specs.Correct.{KeepsTypes, ModuleFits, HasTypedWorld}
 use Rattle.shader_runs.proofs.OneRun.{runs_alike}
 use Rattle.shader_runs.proofs.Process.{Pause, Process, resumed, call_process}

@@ -3,30 +3,20 @@ use Rattle.std.proofs.Common.{◌≡◌, ℕ, zero, suc, ◌+◌, ◌-◌, ◌�
 use Rattle.std.proofs.Common.{◌∷◌, ◌++◌, length, Option, Some, None, ◌||◌, refl, sym, ap, ◌∙◌}
 use Rattle.std.proofs.Common.{subst, true≢false}
 use Rattle.std.specs.Prelude.{IsTrue}
-use Rattle.shader_runs.specs.Value.{Bytes, Value, Truth, Whole}
-use Rattle.shader_runs.specs.World.{Event, Ask}
-use Rattle.shader_runs.specs.Outcome.{Stop, Outcome, Done, Continued, Broke, Returned, Stopped}
-use Rattle.shader_runs.specs.Outcome.{ReachedOrHalted, Gives, Halts, Next, and_then, and_continue}
-use Rattle.shader_runs.specs.Outcome.{after_switch, branch_by, with_integer, closed_outcome}
-use Rattle.shader_runs.specs.Outcome.{closed_if, or_stuck, reach, unless}
-use Rattle.shader_runs.specs.Program.{expression_of, CaseValue, Numbered, Statement, Emit, Store}
-use Rattle.shader_runs.specs.Program.{Block, If, Switch, Loop, Break, Continue, Return, Barrier}
-use Rattle.shader_runs.specs.Program.{Act, Statements, end, then, Cases, no_case, case, Module}
-use Rattle.shader_runs.specs.Program.{binds, from, holds_continue, any_continue, Jumps}
-use Rattle.shader_runs.specs.ProgramRun.{Call, EmittedValues, used_value, emit, emit_as}
-use Rattle.shader_runs.specs.ProgramRun.{barrier_words, ask_each, same_case_value, case_value_if}
-use Rattle.shader_runs.specs.ProgramRun.{run, run_all}
-use Rattle.shader_runs.specs.Text.{Tree, Line, Let, Braces, IfElse, SwitchOn, LoopOf, Lines, last}
-use Rattle.shader_runs.specs.Text.{before, Groups}
-use Rattle.shader_runs.specs.TextRun.{Scope, perform_outcome, value_of, with_value, has_continue}
-use Rattle.shader_runs.specs.TextRun.{AsksForEvent, respond_by_use, among, group_has, follow}
-use Rattle.shader_runs.specs.TextRun.{follow_all, follow_in_loop, follow_groups}
-use Rattle.shader_runs.specs.Scope.{usable, Handles, Names, bound_name, after_one, named_after}
-use Rattle.shader_runs.specs.Scope.{named_after_all, after_emit, named_by, named_by_all, after}
-use Rattle.shader_runs.specs.Scope.{after_all, forgotten_if}
-use Rattle.shader_runs.specs.Form.{written_form, value_at, value_if, value_form, own_form, let_if}
-use Rattle.shader_runs.specs.Form.{lets, perform_each, form, form_all, form_cases}
-use Rattle.shader_runs.specs.Premises.{EachAsks}
+use Rattle.shader_runs.proofs.Common.{Bytes, Value, Truth, Whole, Event, Ask, Stop, Outcome, Done, Continued, Broke}
+use Rattle.shader_runs.proofs.Common.{Returned, Stopped, ReachedOrHalted, Gives, Halts, Next, and_then, and_continue}
+use Rattle.shader_runs.proofs.Common.{after_switch, branch_by, with_integer, closed_outcome, closed_if, or_stuck, reach}
+use Rattle.shader_runs.proofs.Common.{unless, expression_of, CaseValue, Numbered, Statement, Emit, Store, Block, If, Switch}
+use Rattle.shader_runs.proofs.Common.{Loop, Break, Continue, Return, Barrier, Act, Statements, end, then, Cases, no_case}
+use Rattle.shader_runs.proofs.Common.{case, Module, binds, from, holds_continue, any_continue, Jumps, Call, EmittedValues}
+use Rattle.shader_runs.proofs.Common.{used_value, emit, emit_as, barrier_words, ask_each, same_case_value, case_value_if}
+use Rattle.shader_runs.proofs.Common.{run, run_all, Tree, Line, Let, Braces, IfElse, SwitchOn, LoopOf, Lines, last, before}
+use Rattle.shader_runs.proofs.Common.{Groups, Scope, perform_outcome, value_of, with_value, has_continue, AsksForEvent}
+use Rattle.shader_runs.proofs.Common.{respond_by_use, among, group_has, follow, follow_all, follow_in_loop, follow_groups}
+use Rattle.shader_runs.proofs.Common.{usable, Handles, Names, bound_name, after_one, named_after, named_after_all}
+use Rattle.shader_runs.proofs.Common.{after_emit, named_by, named_by_all, after, after_all, forgotten_if, written_form}
+use Rattle.shader_runs.proofs.Common.{value_at, value_if, value_form, own_form, let_if, lets, perform_each, form, form_all}
+use Rattle.shader_runs.proofs.Common.{form_cases, EachAsks}
 use Rattle.shader_runs.specs.Passes.{Region, Point, here, following, inside, after_turns, InTurn}
 use Rattle.shader_runs.specs.Passes.{to_body, to_continuing, to_break_if, body_at, statements_in}
 use Rattle.shader_runs.specs.Passes.{module_turn, FallsTo, this_case, next_case, ComesToCase}

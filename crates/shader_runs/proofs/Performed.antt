@@ -2,29 +2,20 @@
 use Rattle.std.proofs.Common.{◌≡◌, ℕ, zero, suc, Bool, true, false, cond, nat_eq, List, [], ◌∷◌}
 use Rattle.std.proofs.Common.{length, Option, Some, None, refl, ap, ap₂, ◌∙◌, option_and_then}
 use Rattle.std.proofs.Common.{option_map}
-use Rattle.shader_runs.specs.Value.{Bytes, PartTypes, ValueType, has_type, Value, truth_in}
-use Rattle.shader_runs.specs.Value.{integer_in, place_in}
-use Rattle.shader_runs.specs.World.{Event, Entry, Ask, Read, Write, entries, World, Meaning}
-use Rattle.shader_runs.specs.World.{Environment, update}
-use Rattle.shader_runs.specs.Outcome.{Outcome, Done, Continued, Broke, Returned, Stopped}
-use Rattle.shader_runs.specs.Outcome.{ReachedOrHalted, Gives, Halts, answer, Next, and_then}
-use Rattle.shader_runs.specs.Outcome.{and_continue, within, turn, and_again, turns, after_switch}
-use Rattle.shader_runs.specs.Outcome.{branch_by, with_integer, or_stuck}
-use Rattle.shader_runs.specs.Program.{Expression, Load, Operator, Access, AccessIndex, Logical}
-use Rattle.shader_runs.specs.Program.{Swizzle, Request, Action, Asked, Called, CaseValue, Numbered}
-use Rattle.shader_runs.specs.Program.{Statement, Emit, Store, Block, If, Switch, Loop, Return}
-use Rattle.shader_runs.specs.Program.{Barrier, Act, Statements, end, then, Cases, no_case, case}
-use Rattle.shader_runs.specs.Program.{Function, argument_count, expression_of, handle_type}
-use Rattle.shader_runs.specs.Program.{operands_of, is_counted, from, Jumps}
-use Rattle.shader_runs.specs.ProgramRun.{Call, EmittedValues, constant_values, used_value}
-use Rattle.shader_runs.specs.ProgramRun.{used_value_as, also, used_values, gathered_value}
-use Rattle.shader_runs.specs.ProgramRun.{computed_value, joined_values, if_typed, store_typed}
-use Rattle.shader_runs.specs.ProgramRun.{after_load, after_request, if_counted, emit_as, emit}
-use Rattle.shader_runs.specs.ProgramRun.{leave, return_outcome, action_answer, with_result}
-use Rattle.shader_runs.specs.ProgramRun.{barrier_words, ask_each, same_case_value, has_case_value}
-use Rattle.shader_runs.specs.ProgramRun.{case_value_if, run, run_all, run_cases, run_on}
-use Rattle.shader_runs.specs.ProgramRun.{constants_at_start, with_first, first_used, first_used_all}
-use Rattle.shader_runs.specs.ProgramRun.{run_from_entry, run_body, run_if_arguments_fit, run_call}
+use Rattle.shader_runs.proofs.Common.{Bytes, PartTypes, ValueType, has_type, Value, truth_in, integer_in, place_in, Event}
+use Rattle.shader_runs.proofs.Common.{Entry, Ask, Read, Write, entries, World, Meaning, Environment, update, Outcome, Done}
+use Rattle.shader_runs.proofs.Common.{Continued, Broke, Returned, Stopped, ReachedOrHalted, Gives, Halts, answer, Next}
+use Rattle.shader_runs.proofs.Common.{and_then, and_continue, within, turn, and_again, turns, after_switch, branch_by}
+use Rattle.shader_runs.proofs.Common.{with_integer, or_stuck, Expression, Load, Operator, Access, AccessIndex, Logical}
+use Rattle.shader_runs.proofs.Common.{Swizzle, Request, Action, Asked, Called, CaseValue, Numbered, Statement, Emit, Store}
+use Rattle.shader_runs.proofs.Common.{Block, If, Switch, Loop, Return, Barrier, Act, Statements, end, then, Cases, no_case}
+use Rattle.shader_runs.proofs.Common.{case, Function, argument_count, expression_of, handle_type, operands_of, is_counted}
+use Rattle.shader_runs.proofs.Common.{from, Jumps, Call, EmittedValues, constant_values, used_value, used_value_as, also}
+use Rattle.shader_runs.proofs.Common.{used_values, gathered_value, computed_value, joined_values, if_typed, store_typed}
+use Rattle.shader_runs.proofs.Common.{after_load, after_request, if_counted, emit_as, emit, leave, return_outcome}
+use Rattle.shader_runs.proofs.Common.{action_answer, with_result, barrier_words, ask_each, same_case_value, has_case_value}
+use Rattle.shader_runs.proofs.Common.{case_value_if, run, run_all, run_cases, run_on, constants_at_start, with_first}
+use Rattle.shader_runs.proofs.Common.{first_used, first_used_all, run_from_entry, run_body, run_if_arguments_fit, run_call}
 use Rattle.shader_runs.proofs.Process.{Pause, DoneWith, ContinuedWith, BrokeWith, ReturnedWith}
 use Rattle.shader_runs.proofs.Process.{Process, gives, stuck, tells, looks, sequence, answered}
 use Rattle.shader_runs.proofs.Process.{resumed, again, rounds, perform, then_on, continue_on}

@@ -3,16 +3,11 @@
 use Rattle.std.proofs.Common.{◌≡◌, ℕ, zero, suc, ◌+◌, ◌-◌, ◌≤◌, Bool, true, false, cond, List, []}
 use Rattle.std.proofs.Common.{◌∷◌, ◌++◌, length, refl, ap, ap₂, ◌∙◌, arith, true≢false}
 use Rattle.std.proofs.lemmas.Bool.{or_parts}
-use Rattle.shader_runs.specs.Value.{Bytes}
-use Rattle.shader_runs.specs.World.{Event}
-use Rattle.shader_runs.specs.Program.{CaseValue, Statement, Emit, Barrier, Statements, Cases}
-use Rattle.shader_runs.specs.Program.{no_case, case, expression_of, binds, from}
-use Rattle.shader_runs.specs.ProgramRun.{Call, EmittedValues, barrier_words}
-use Rattle.shader_runs.specs.Text.{Tree, Lines}
-use Rattle.shader_runs.specs.Scope.{Handles, Naming, bound_name, after_one, named_after}
-use Rattle.shader_runs.specs.Scope.{named_after_all, after_emit, named_by, named_by_all, after}
-use Rattle.shader_runs.specs.Form.{written_form, value_form, own_form, let_if, lets, perform_each}
-use Rattle.shader_runs.specs.Form.{form, form_all, form_cases}
+use Rattle.shader_runs.proofs.Common.{Bytes, Event, CaseValue, Statement, Emit, Barrier, Statements, Cases, no_case, case}
+use Rattle.shader_runs.proofs.Common.{expression_of, binds, from, Call, EmittedValues, barrier_words, Tree, Lines, Handles}
+use Rattle.shader_runs.proofs.Common.{Naming, bound_name, after_one, named_after, named_after_all, after_emit, named_by}
+use Rattle.shader_runs.proofs.Common.{named_by_all, after, written_form, value_form, own_form, let_if, lets, perform_each}
+use Rattle.shader_runs.proofs.Common.{form, form_all, form_cases}
 use Rattle.shader_runs.specs.Passes.{Region, Point, here, inside, to_body, to_continuing}
 use Rattle.shader_runs.specs.Passes.{to_break_if, body_at, statements_in, statements_at, Comes}
 use Rattle.shader_runs.specs.Passes.{into_block, into_accept, into_reject, into_case, into_loop}

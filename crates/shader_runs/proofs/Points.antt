@@ -1,14 +1,10 @@
 -- The two facts at each point.
 use Rattle.std.proofs.Common.{◌≡◌, ℕ, ◌<◌, ◌≤◌, List, [], ◌∷◌, ◌++◌, length, sym, ap, ◌∙◌, subst}
 use Rattle.std.proofs.Common.{arith}
-use Rattle.shader_runs.specs.Value.{PartTypes}
-use Rattle.shader_runs.specs.World.{Meaning, Environment}
-use Rattle.shader_runs.specs.Program.{expression_of, handle_type, Module}
-use Rattle.shader_runs.specs.ProgramRun.{Call, EmittedValues, run_call}
-use Rattle.shader_runs.specs.TextRun.{Scope, word_use}
-use Rattle.shader_runs.specs.Scope.{Handles, ModuleNames, Names, Naming, at_start}
-use Rattle.shader_runs.specs.Form.{form_functions, functions_of, form_all}
-use Rattle.shader_runs.specs.Premises.{AllFit, AllTypedIn, EnvironmentFits}
+use Rattle.shader_runs.proofs.Common.{PartTypes, Meaning, Environment, expression_of, handle_type, Module, Call}
+use Rattle.shader_runs.proofs.Common.{EmittedValues, run_call, Scope, word_use, Handles, ModuleNames, Names, Naming}
+use Rattle.shader_runs.proofs.Common.{at_start, form_functions, functions_of, form_all, AllFit, AllTypedIn, EnvironmentFits}
+use Rattle.shader_runs.proofs.Common.{reach}
 use Rattle.shader_runs.specs.Points.{LinesAreTheForm, FactsHold, call_of, words_of, handles_at}
 use Rattle.shader_runs.specs.Points.{PointsAgree, names_of}
 use Rattle.shader_runs.specs.Constants.{environment_of}
@@ -24,7 +20,6 @@ use Rattle.shader_runs.proofs.Names.{items_fit, length-functions_of, module_name
 use Rattle.shader_runs.specs.Correct.{ItemsFit}
 use Rattle.shader_runs.proofs.Constants.{environment_fits}
 use Rattle.shader_runs.specs.Passes.{TextPasses, point_in_text}
-use Rattle.shader_runs.specs.Outcome.{reach}
 
 facts_hold : (p : Module) (c : Call) (n : Names) (d : Respond) → Facts p c n d →
     (s : Handles) (names : Scope) (kept : EmittedValues) → Related c n s names kept →

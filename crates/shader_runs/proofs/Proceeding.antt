@@ -2,20 +2,14 @@
 use Rattle.std.proofs.Common.{◌≡◌, ℕ, zero, suc, Bool, true, false, cond, nat_eq, List, Option}
 use Rattle.std.proofs.Common.{Some, None, refl, sym, ap, ◌∙◌, subst, eqb-true}
 use Rattle.std.specs.Prelude.{IsTrue, ℤ}
-use Rattle.shader_runs.specs.Value.{Bytes, PartTypes, Place, ValueType, has_type, has_types, Value}
-use Rattle.shader_runs.specs.Value.{Pointer}
-use Rattle.shader_runs.specs.World.{Event, update}
-use Rattle.shader_runs.specs.Outcome.{Stop, Outcome, Done, Continued, Broke, Returned, Stopped}
-use Rattle.shader_runs.specs.Outcome.{ReachedOrHalted, Gives, Halts, answer, Next, and_then}
-use Rattle.shader_runs.specs.Outcome.{and_continue, within, and_again, turns, after_switch}
-use Rattle.shader_runs.specs.Outcome.{branch_by, with_integer, or_stuck}
-use Rattle.shader_runs.specs.Program.{Function, function_numbered, expression_of, handle_type}
-use Rattle.shader_runs.specs.Program.{operands_of, Module}
-use Rattle.shader_runs.specs.ProgramRun.{Call, EmittedValues, if_typed, with_pointer}
-use Rattle.shader_runs.specs.Scope.{Availability, Absent, Barred, Everywhere, Inline, Bound}
-use Rattle.shader_runs.specs.Scope.{Handles, is_present, usable_all, availability_without_name}
-use Rattle.shader_runs.specs.Scope.{forgotten_handles, forgotten_one}
-use Rattle.shader_runs.specs.Premises.{LeafFits, IsTypedIn, EnvironmentFits}
+use Rattle.shader_runs.proofs.Common.{Bytes, PartTypes, Place, ValueType, has_type, has_types, Value, Pointer, Event}
+use Rattle.shader_runs.proofs.Common.{update, Stop, Outcome, Done, Continued, Broke, Returned, Stopped, ReachedOrHalted}
+use Rattle.shader_runs.proofs.Common.{Gives, Halts, answer, Next, and_then, and_continue, within, and_again, turns}
+use Rattle.shader_runs.proofs.Common.{after_switch, branch_by, with_integer, or_stuck, Function, function_numbered}
+use Rattle.shader_runs.proofs.Common.{expression_of, handle_type, operands_of, Module, Call, EmittedValues, if_typed}
+use Rattle.shader_runs.proofs.Common.{with_pointer, Availability, Absent, Barred, Everywhere, Inline, Bound, Handles}
+use Rattle.shader_runs.proofs.Common.{is_present, usable_all, availability_without_name, forgotten_handles, forgotten_one}
+use Rattle.shader_runs.proofs.Common.{LeafFits, IsTypedIn, EnvironmentFits}
 use Rattle.shader_runs.specs.Progress.{IsPointer, IsInteger, IsBoolean, LoadFits, NotStuck}
 use Rattle.shader_runs.proofs.Relation.{TypedValue, Returns, Extends}
 use Rattle.shader_runs.proofs.Evaluation.{pointer_typed, integer_typed, truth_typed}

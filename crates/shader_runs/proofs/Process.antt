@@ -2,23 +2,17 @@
 -- loop turns.
 use Rattle.std.proofs.Common.{ℕ, zero, suc, Bool, true, false, nat_eq, List, [], ◌∷◌, length}
 use Rattle.std.proofs.Common.{Option, Some, None, option_and_then}
-use Rattle.shader_runs.specs.Value.{Bytes, PartTypes, ValueType, has_type, Value, Truth, truth_in}
-use Rattle.shader_runs.specs.Value.{integer_in, place_in}
-use Rattle.shader_runs.specs.World.{Event, Entry, Ask, Read, Write, Discard, entries, World}
-use Rattle.shader_runs.specs.World.{Meaning, Environment, update}
-use Rattle.shader_runs.specs.Outcome.{Stuck, Unreturned, OutOfTurns, Discarded, Mistyped, Outcome}
-use Rattle.shader_runs.specs.Outcome.{Done, Continued, Broke, Returned, Stopped, ReachedOrHalted}
-use Rattle.shader_runs.specs.Outcome.{Gives, Halts}
-use Rattle.shader_runs.specs.Program.{Expression, Load, Operator, Access, AccessIndex, Logical}
-use Rattle.shader_runs.specs.Program.{Swizzle, Request, Action, Asked, Called, CaseValue, Numbered}
-use Rattle.shader_runs.specs.Program.{Statement, Emit, Store, Block, If, Switch, Loop, Break}
-use Rattle.shader_runs.specs.Program.{Continue, Return, Barrier, Act, Statements, end, then, Cases}
-use Rattle.shader_runs.specs.Program.{no_case, case, Function, argument_count, expression_of}
-use Rattle.shader_runs.specs.Program.{handle_type, is_counted, from, Jump, Jumps}
-use Rattle.shader_runs.specs.ProgramRun.{Call, EmittedValues, constant_values, used_value}
-use Rattle.shader_runs.specs.ProgramRun.{used_values, computed_value, joined_values, barrier_words}
-use Rattle.shader_runs.specs.ProgramRun.{same_case_value, has_case_value, case_value_if}
-use Rattle.shader_runs.specs.ProgramRun.{constants_at_start, first_used_all}
+use Rattle.shader_runs.proofs.Common.{Bytes, PartTypes, ValueType, has_type, Value, Truth, truth_in, integer_in, place_in}
+use Rattle.shader_runs.proofs.Common.{Event, Entry, Ask, Read, Write, Discard, entries, World, Meaning, Environment, update}
+use Rattle.shader_runs.proofs.Common.{Stuck, Unreturned, OutOfTurns, Discarded, Mistyped, Outcome, Done, Continued, Broke}
+use Rattle.shader_runs.proofs.Common.{Returned, Stopped, ReachedOrHalted, Gives, Halts, Expression, Load, Operator, Access}
+use Rattle.shader_runs.proofs.Common.{AccessIndex, Logical, Swizzle, Request, Action, Asked, Called, CaseValue, Numbered}
+use Rattle.shader_runs.proofs.Common.{Statement, Emit, Store, Block, If, Switch, Loop, Break, Continue, Return, Barrier}
+use Rattle.shader_runs.proofs.Common.{Act, Statements, end, then, Cases, no_case, case, Function, argument_count}
+use Rattle.shader_runs.proofs.Common.{expression_of, handle_type, is_counted, from, Jump, Jumps, Call, EmittedValues}
+use Rattle.shader_runs.proofs.Common.{constant_values, used_value, used_values, computed_value, joined_values}
+use Rattle.shader_runs.proofs.Common.{barrier_words, same_case_value, has_case_value, case_value_if, constants_at_start}
+use Rattle.shader_runs.proofs.Common.{first_used_all}
 
 abbrev pub events_of : {S : Type 0} → Outcome S → List Event
 events_of (Done s t) = t

@@ -6,40 +6,29 @@ use Rattle.std.specs.Prelude.{IsTrue}
 use Rattle.std.proofs.Math.Nat.{min-le_right}
 use Rattle.std.proofs.lemmas.Bool.{ltb-true, lt-ltb}
 use Rattle.std.proofs.lemmas.List.{length-take}
-use Rattle.shader_runs.specs.Value.{Bytes, ValueType, has_type, has_types, Value}
-use Rattle.shader_runs.specs.World.{Event, Entry, Ask, Read, World, Meaning, Environment, update}
-use Rattle.shader_runs.specs.Outcome.{Outcome, Done, ReachedOrHalted, Gives, Halts, answer, Next}
-use Rattle.shader_runs.specs.Outcome.{and_then, within, turn, turns, branch_by, or_stuck}
-use Rattle.shader_runs.specs.Program.{ConstantTrees, Expression, Local, Load, Operator, Access}
-use Rattle.shader_runs.specs.Program.{AccessIndex, Logical, Swizzle, Request, Action, Asked, Called}
-use Rattle.shader_runs.specs.Program.{CaseValue, Numbered, Statement, Emit, Store, Block, If}
-use Rattle.shader_runs.specs.Program.{Switch, Loop, Break, Continue, Return, Barrier, Act}
-use Rattle.shader_runs.specs.Program.{Statements, end, then, Cases, no_case, case, Function}
-use Rattle.shader_runs.specs.Program.{argument_count, local_count, function_numbered, expression_of}
-use Rattle.shader_runs.specs.Program.{handle_type, operands_of, is_counted, binds_as, from}
-use Rattle.shader_runs.specs.Program.{holds_continue, any_continue, some_case_continues, Module}
-use Rattle.shader_runs.specs.Program.{is_pure, is_emittable, Jumps}
-use Rattle.shader_runs.specs.ProgramRun.{Call, EmittedValues, constant_values, used_value}
-use Rattle.shader_runs.specs.ProgramRun.{used_values, joined_values, computed_value, if_typed}
-use Rattle.shader_runs.specs.ProgramRun.{after_load, after_request, if_counted, emit_as, emit}
-use Rattle.shader_runs.specs.ProgramRun.{leave, return_outcome, action_answer, with_result}
-use Rattle.shader_runs.specs.ProgramRun.{barrier_words, ask_each, same_case_value, has_case_value}
-use Rattle.shader_runs.specs.ProgramRun.{case_value_if, run, run_all, run_cases, run_on}
-use Rattle.shader_runs.specs.ProgramRun.{constants_at_start, with_first, first_used_all, run_from_entry}
-use Rattle.shader_runs.specs.ProgramRun.{run_body, run_if_arguments_fit, run_call}
-use Rattle.shader_runs.specs.TextRun.{Scope, no_names}
-use Rattle.shader_runs.specs.Scope.{Availability, Absent, Barred, Everywhere, Inline, Bound}
-use Rattle.shader_runs.specs.Scope.{Handles, ModuleNames, Names, Naming, bound_name, is_present}
-use Rattle.shader_runs.specs.Scope.{is_new, before_local, usable, usable_as, usable_all, usable_if}
-use Rattle.shader_runs.specs.Scope.{availability_without_name, with_emitted_handle, after_one}
-use Rattle.shader_runs.specs.Scope.{named_after, named_by, named_by_all, after_emit, after_result}
-use Rattle.shader_runs.specs.Scope.{after, after_all, forgotten_handles, forgotten_if}
-use Rattle.shader_runs.specs.Scope.{start_availability, at_start, first_values_fit, fits_all}
-use Rattle.shader_runs.specs.Form.{functions_of}
+use Rattle.shader_runs.proofs.Common.{Bytes, ValueType, has_type, has_types, Value, Event, Entry, Ask, Read, World, Meaning}
+use Rattle.shader_runs.proofs.Common.{Environment, update, Outcome, Done, ReachedOrHalted, Gives, Halts, answer, Next}
+use Rattle.shader_runs.proofs.Common.{and_then, within, turn, turns, branch_by, or_stuck, ConstantTrees, Expression, Local}
+use Rattle.shader_runs.proofs.Common.{Load, Operator, Access, AccessIndex, Logical, Swizzle, Request, Action, Asked, Called}
+use Rattle.shader_runs.proofs.Common.{CaseValue, Numbered, Statement, Emit, Store, Block, If, Switch, Loop, Break, Continue}
+use Rattle.shader_runs.proofs.Common.{Return, Barrier, Act, Statements, end, then, Cases, no_case, case, Function}
+use Rattle.shader_runs.proofs.Common.{argument_count, local_count, function_numbered, expression_of, handle_type}
+use Rattle.shader_runs.proofs.Common.{operands_of, is_counted, binds_as, from, holds_continue, any_continue}
+use Rattle.shader_runs.proofs.Common.{some_case_continues, Module, is_pure, is_emittable, Jumps, Call, EmittedValues}
+use Rattle.shader_runs.proofs.Common.{constant_values, used_value, used_values, joined_values, computed_value, if_typed}
+use Rattle.shader_runs.proofs.Common.{after_load, after_request, if_counted, emit_as, emit, leave, return_outcome}
+use Rattle.shader_runs.proofs.Common.{action_answer, with_result, barrier_words, ask_each, same_case_value, has_case_value}
+use Rattle.shader_runs.proofs.Common.{case_value_if, run, run_all, run_cases, run_on, constants_at_start, with_first}
+use Rattle.shader_runs.proofs.Common.{first_used_all, run_from_entry, run_body, run_if_arguments_fit, run_call, Scope}
+use Rattle.shader_runs.proofs.Common.{no_names, Availability, Absent, Barred, Everywhere, Inline, Bound, Handles}
+use Rattle.shader_runs.proofs.Common.{ModuleNames, Names, Naming, bound_name, is_present, is_new, before_local, usable}
+use Rattle.shader_runs.proofs.Common.{usable_as, usable_all, usable_if, availability_without_name, with_emitted_handle}
+use Rattle.shader_runs.proofs.Common.{after_one, named_after, named_by, named_by_all, after_emit, after_result, after}
+use Rattle.shader_runs.proofs.Common.{after_all, forgotten_handles, forgotten_if, start_availability, at_start}
+use Rattle.shader_runs.proofs.Common.{first_values_fit, fits_all, functions_of, LeafFits, LeafTyped, ConstantsInRange}
+use Rattle.shader_runs.proofs.Common.{ConstantsTyped, IsTypedIn, EnvironmentFits, handle_types, CallFits, ActionFits}
+use Rattle.shader_runs.proofs.Common.{ReturnFits, FunctionFits, AllFit, AllTypedIn}
 use Rattle.shader_runs.specs.Points.{call_of}
-use Rattle.shader_runs.specs.Premises.{LeafFits, LeafTyped, ConstantsInRange, ConstantsTyped}
-use Rattle.shader_runs.specs.Premises.{IsTypedIn, EnvironmentFits, handle_types, CallFits}
-use Rattle.shader_runs.specs.Premises.{ActionFits, ReturnFits, FunctionFits, AllFit, AllTypedIn}
 use Rattle.shader_runs.specs.Progress.{IsPointer, IsInteger, IsBoolean, LoadFits, BreakIfFits}
 use Rattle.shader_runs.specs.Progress.{IsWellFormed, AreWellFormed, CasesAreWellFormed}
 use Rattle.shader_runs.specs.Progress.{FunctionIsWellFormed, AllWellFormed, IsNotStuck}

@@ -2,20 +2,14 @@
 use Rattle.std.proofs.Common.{◌≡◌, ◌≢◌, ℕ, ◌<◌, Bool, true, false, cond, List, [], ◌∷◌, length}
 use Rattle.std.proofs.Common.{Option, Some, None, slice_get, refl, sym, ap, ◌∙◌, option_map}
 use Rattle.std.specs.Prelude.{IsTrue}
-use Rattle.shader_runs.specs.Value.{Bytes, AtOrigin, LocalOrigin, GlobalOrigin, PartTypes, ValueType}
-use Rattle.shader_runs.specs.Value.{has_type, Value}
-use Rattle.shader_runs.specs.World.{GlobalValue, Stored, InHandleSpace}
-use Rattle.shader_runs.specs.Program.{Expression, Constant, Argument, Local, Global, Function}
-use Rattle.shader_runs.specs.Program.{argument_count, local_count, local_pointer, expression_of}
-use Rattle.shader_runs.specs.Program.{handle_type, operands_of}
-use Rattle.shader_runs.specs.ProgramRun.{Call, EmittedValues, used_value_as, used_value, also}
-use Rattle.shader_runs.specs.ProgramRun.{used_values, gathered_value, computed_value}
-use Rattle.shader_runs.specs.TextRun.{Denotation, IsValue, IsPlace, Scope}
-use Rattle.shader_runs.specs.Scope.{Availability, Absent, Barred, Everywhere, Inline, Bound}
-use Rattle.shader_runs.specs.Scope.{Handles, Names, usable, usable_as, usable_all, is_present}
-use Rattle.shader_runs.specs.Scope.{is_new, forgotten_handles, forgotten_one, named_by_all}
-use Rattle.shader_runs.specs.Premises.{FixedName, ArgumentName, LocalName, ConstantName, GlobalName}
-use Rattle.shader_runs.specs.Premises.{fixed_name}
+use Rattle.shader_runs.proofs.Common.{Bytes, AtOrigin, LocalOrigin, GlobalOrigin, PartTypes, ValueType, has_type, Value}
+use Rattle.shader_runs.proofs.Common.{GlobalValue, Stored, InHandleSpace, Expression, Constant, Argument, Local, Global}
+use Rattle.shader_runs.proofs.Common.{Function, argument_count, local_count, local_pointer, expression_of, handle_type}
+use Rattle.shader_runs.proofs.Common.{operands_of, Call, EmittedValues, used_value_as, used_value, also, used_values}
+use Rattle.shader_runs.proofs.Common.{gathered_value, computed_value, Denotation, IsValue, IsPlace, Scope, Availability}
+use Rattle.shader_runs.proofs.Common.{Absent, Barred, Everywhere, Inline, Bound, Handles, Names, usable, usable_as}
+use Rattle.shader_runs.proofs.Common.{usable_all, is_present, is_new, forgotten_handles, forgotten_one, named_by_all}
+use Rattle.shader_runs.proofs.Common.{FixedName, ArgumentName, LocalName, ConstantName, GlobalName, fixed_name}
 use Rattle.shader_runs.proofs.Update.{and_left, and_right, and_both}
 
 -- a value of this type

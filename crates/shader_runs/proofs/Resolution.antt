@@ -4,33 +4,23 @@ use Rattle.std.proofs.Common.{[], ◌∷◌, ◌++◌, map, length, Option, Some
 use Rattle.std.proofs.Common.{◌∙◌, arith, append_assoc, length-drop}
 use Rattle.std.specs.Prelude.{IsTrue, slice_get}
 use Rattle.std.proofs.lemmas.List.{map-append}
-use Rattle.shader_runs.specs.Value.{Bytes, ValueType}
-use Rattle.shader_runs.specs.World.{update, bind}
-use Rattle.shader_runs.specs.Program.{ConstantTree, Expression, Constant, Argument, Local, Global}
-use Rattle.shader_runs.specs.Program.{Operator, Request, Action, Asked, Called, Statement, Emit}
-use Rattle.shader_runs.specs.Program.{Store, Block, If, Switch, Loop, Return, Barrier, Act}
-use Rattle.shader_runs.specs.Program.{Statements, end, then, Cases, no_case, case, CaseValue}
-use Rattle.shader_runs.specs.Program.{Function, argument_count, local_count, expression_of}
-use Rattle.shader_runs.specs.Program.{handle_type, binds, from, Module, constant_count}
-use Rattle.shader_runs.specs.Program.{VariableShape, override_types, Jumps}
-use Rattle.shader_runs.specs.ProgramRun.{barrier_words}
-use Rattle.shader_runs.specs.Scope.{Handles, ModuleNames, Naming, at_start, bound_name, usable_if}
-use Rattle.shader_runs.specs.Scope.{named_after, named_after_all, named_by, named_by_all}
-use Rattle.shader_runs.specs.Scope.{named_by_cases, after_one, after, after_all, before_local}
-use Rattle.shader_runs.specs.Scope.{first_values_fit, fits_all, fits_function}
-use Rattle.shader_runs.specs.Text.{TextFunction, Tree, Lines, before}
-use Rattle.shader_runs.specs.Form.{value_form, value_forms, own_form, written_form, value_if}
-use Rattle.shader_runs.specs.Form.{let_if, lets, word_of, act_line, perform_each, form, form_all}
-use Rattle.shader_runs.specs.Form.{form_cases, names_from, variables_from, constants_from}
-use Rattle.shader_runs.specs.Form.{globals_from, functions_of, form_function, form_functions}
-use Rattle.shader_runs.specs.Form.{constant_form, form_module, form_module_with}
-use Rattle.shader_runs.specs.Premises.{FixedName, ArgumentName, LocalName, ConstantName, GlobalName}
-use Rattle.shader_runs.specs.Premises.{FixedKey, fixed_name, IsFixedName, IsNoName, EachAsks}
-use Rattle.shader_runs.specs.Premises.{WordFits, LeafFits, ActionFits, IsRegular, AreRegular}
-use Rattle.shader_runs.specs.Premises.{CasesAreRegular, AreDistinct, FunctionFits, AllFit}
-use Rattle.shader_runs.specs.Premises.{OnlyEmptyFalls, OnlyEmptyFallIn, OnlyEmptyCasesFall}
-use Rattle.shader_runs.specs.Premises.{InitialiserFits, OperatesOutside, ModuleNamesAreDistinct}
-use Rattle.shader_runs.specs.Premises.{ConstantInRange, EachWord}
+use Rattle.shader_runs.proofs.Common.{Bytes, ValueType, update, bind, ConstantTree, Expression, Constant, Argument, Local}
+use Rattle.shader_runs.proofs.Common.{Global, Operator, Request, Action, Asked, Called, Statement, Emit, Store, Block, If}
+use Rattle.shader_runs.proofs.Common.{Switch, Loop, Return, Barrier, Act, Statements, end, then, Cases, no_case, case}
+use Rattle.shader_runs.proofs.Common.{CaseValue, Function, argument_count, local_count, expression_of, handle_type, binds}
+use Rattle.shader_runs.proofs.Common.{from, Module, constant_count, VariableShape, override_types, Jumps, barrier_words}
+use Rattle.shader_runs.proofs.Common.{Handles, ModuleNames, Naming, at_start, bound_name, usable_if, named_after}
+use Rattle.shader_runs.proofs.Common.{named_after_all, named_by, named_by_all, named_by_cases, after_one, after, after_all}
+use Rattle.shader_runs.proofs.Common.{before_local, first_values_fit, fits_all, fits_function, TextFunction, Tree, Lines}
+use Rattle.shader_runs.proofs.Common.{before, value_form, value_forms, own_form, written_form, value_if, let_if, lets}
+use Rattle.shader_runs.proofs.Common.{word_of, act_line, perform_each, form, form_all, form_cases, names_from}
+use Rattle.shader_runs.proofs.Common.{variables_from, constants_from, globals_from, functions_of, form_function}
+use Rattle.shader_runs.proofs.Common.{form_functions, constant_form, form_module, form_module_with, FixedName, ArgumentName}
+use Rattle.shader_runs.proofs.Common.{LocalName, ConstantName, GlobalName, FixedKey, fixed_name, IsFixedName, IsNoName}
+use Rattle.shader_runs.proofs.Common.{EachAsks, WordFits, LeafFits, ActionFits, IsRegular, AreRegular, CasesAreRegular}
+use Rattle.shader_runs.proofs.Common.{AreDistinct, FunctionFits, AllFit, OnlyEmptyFalls, OnlyEmptyFallIn}
+use Rattle.shader_runs.proofs.Common.{OnlyEmptyCasesFall, InitialiserFits, OperatesOutside, ModuleNamesAreDistinct}
+use Rattle.shader_runs.proofs.Common.{ConstantInRange, EachWord}
 use Rattle.shader_runs.specs.Correct.{AreNamed, ItemsFit}
 use Rattle.shader_runs.specs.Resolution.{Target, ConstantTarget, GlobalTarget, FunctionTarget}
 use Rattle.shader_runs.specs.Resolution.{ArgumentTarget, LocalTarget, LetTarget, Lookup}

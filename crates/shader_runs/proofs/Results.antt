@@ -3,31 +3,21 @@ use Rattle.std.proofs.Common.{◌≡◌, ℕ, zero, suc, Bool, true, false, not,
 use Rattle.std.proofs.Common.{◌∷◌, length, Option, Some, None, ◌&&◌, ◌||◌, refl, sym, ap, ◌∙◌}
 use Rattle.std.proofs.Common.{subst, true≢false, option_and_then}
 use Rattle.std.specs.Prelude.{IsTrue, ℤ, is_some}
-use Rattle.shader_runs.specs.Value.{PartTypes, Bytes, ValueType, has_type, Value, truth_in}
-use Rattle.shader_runs.specs.Value.{integer_in, place_in}
-use Rattle.shader_runs.specs.World.{Event, Entry, Ask, Read, World, Meaning, Environment, update}
-use Rattle.shader_runs.specs.Outcome.{Outcome, Done, Continued, Broke, Returned, Stopped}
-use Rattle.shader_runs.specs.Outcome.{ReachedOrHalted, Gives, Halts, answer, Next, and_then}
-use Rattle.shader_runs.specs.Outcome.{and_continue, within, and_again, turn, turns, after_switch}
-use Rattle.shader_runs.specs.Outcome.{branch_by, or_stuck}
-use Rattle.shader_runs.specs.Program.{Expression, Load, Request, Action, Asked, Called, CaseValue}
-use Rattle.shader_runs.specs.Program.{Numbered, Default, Statement, Emit, Store, Block, If, Switch}
-use Rattle.shader_runs.specs.Program.{Loop, Break, Return, Barrier, Act, Statements, end, then}
-use Rattle.shader_runs.specs.Program.{Cases, no_case, case, Function, argument_count}
-use Rattle.shader_runs.specs.Program.{function_numbered, expression_of, handle_type, is_counted}
-use Rattle.shader_runs.specs.Program.{from, Module, Jumps}
-use Rattle.shader_runs.specs.ProgramRun.{Call, EmittedValues, constant_values, used_value}
-use Rattle.shader_runs.specs.ProgramRun.{used_values, joined_values, if_typed, after_load}
-use Rattle.shader_runs.specs.ProgramRun.{after_request, if_counted, emit_as, emit, leave}
-use Rattle.shader_runs.specs.ProgramRun.{action_answer, with_result, barrier_words, ask_each}
-use Rattle.shader_runs.specs.ProgramRun.{same_case_value, has_case_value, case_value_if, run}
-use Rattle.shader_runs.specs.ProgramRun.{run_all, run_cases, run_on, constants_at_start, first_used_all}
-use Rattle.shader_runs.specs.ProgramRun.{run_from_entry, run_body, run_if_arguments_fit, run_call}
-use Rattle.shader_runs.specs.Scope.{Naming}
-use Rattle.shader_runs.specs.Form.{functions_of}
+use Rattle.shader_runs.proofs.Common.{PartTypes, Bytes, ValueType, has_type, Value, truth_in, integer_in, place_in, Event}
+use Rattle.shader_runs.proofs.Common.{Entry, Ask, Read, World, Meaning, Environment, update, Outcome, Done, Continued}
+use Rattle.shader_runs.proofs.Common.{Broke, Returned, Stopped, ReachedOrHalted, Gives, Halts, answer, Next, and_then}
+use Rattle.shader_runs.proofs.Common.{and_continue, within, and_again, turn, turns, after_switch, branch_by, or_stuck}
+use Rattle.shader_runs.proofs.Common.{Expression, Load, Request, Action, Asked, Called, CaseValue, Numbered, Default}
+use Rattle.shader_runs.proofs.Common.{Statement, Emit, Store, Block, If, Switch, Loop, Break, Return, Barrier, Act}
+use Rattle.shader_runs.proofs.Common.{Statements, end, then, Cases, no_case, case, Function, argument_count}
+use Rattle.shader_runs.proofs.Common.{function_numbered, expression_of, handle_type, is_counted, from, Module, Jumps, Call}
+use Rattle.shader_runs.proofs.Common.{EmittedValues, constant_values, used_value, used_values, joined_values, if_typed}
+use Rattle.shader_runs.proofs.Common.{after_load, after_request, if_counted, emit_as, emit, leave, action_answer}
+use Rattle.shader_runs.proofs.Common.{with_result, barrier_words, ask_each, same_case_value, has_case_value, case_value_if}
+use Rattle.shader_runs.proofs.Common.{run, run_all, run_cases, run_on, constants_at_start, first_used_all, run_from_entry}
+use Rattle.shader_runs.proofs.Common.{run_body, run_if_arguments_fit, run_call, Naming, functions_of, CallFits, ActionFits}
+use Rattle.shader_runs.proofs.Common.{FallsFrom, IsRegular, AreRegular, CasesAreRegular}
 use Rattle.shader_runs.specs.Points.{call_of}
-use Rattle.shader_runs.specs.Premises.{CallFits, ActionFits, FallsFrom, IsRegular, AreRegular}
-use Rattle.shader_runs.specs.Premises.{CasesAreRegular}
 use Rattle.shader_runs.specs.Results.{holds_break, any_break, may_end, may_end_all, some_case_ends}
 use Rattle.shader_runs.specs.Results.{has_values, all_have_values, cases_have_values, GivesResult}
 use Rattle.shader_runs.specs.Results.{AllGiveResults, IsReturned, NotUnreturned, IsComplete}

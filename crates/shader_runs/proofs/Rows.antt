@@ -2,11 +2,9 @@
 use Rattle.std.proofs.Common.{◌≡◌, ℕ, zero, suc, ◌+◌, ◌<◌, List, [], ◌∷◌, Some, slice_get, refl}
 use Rattle.std.proofs.Common.{sym, ap, subst, arith}
 use Rattle.std.specs.Prelude.{codes}
-use Rattle.shader_runs.specs.Program.{Function, expression_of, handle_type, operands_of}
-use Rattle.shader_runs.specs.Scope.{named_by_all}
-use Rattle.shader_runs.specs.Premises.{AllBelow, WordFits, LeafFits, AreDistinct, FixedKey}
-use Rattle.shader_runs.specs.Premises.{NumberedKey, NamedKey, ArgumentName, LocalName, ConstantName}
-use Rattle.shader_runs.specs.Premises.{GlobalName, ConstantsFit}
+use Rattle.shader_runs.proofs.Common.{Function, expression_of, handle_type, operands_of, named_by_all, AllBelow, WordFits}
+use Rattle.shader_runs.proofs.Common.{LeafFits, AreDistinct, FixedKey, NumberedKey, NamedKey, ArgumentName, LocalName}
+use Rattle.shader_runs.proofs.Common.{ConstantName, GlobalName, ConstantsFit}
 use Rattle.shader_runs.specs.Typing.{Signature, IsOneOf, IsSpelled, PartsFit, LeafTreesFit, signatures_of}
 use Rattle.shader_runs.specs.Typing.{in_function, in_initialiser}
 use Rattle.shader_runs.specs.Rows.{RowsHold, PremisesHold, store_function, store_naming}

@@ -2,20 +2,14 @@
 use Rattle.std.proofs.Common.{Option, ◌≡◌, ℕ, Bool, true, false, List, [], ◌∷◌, ◌++◌, Some, None}
 use Rattle.std.proofs.Common.{◌||◌, refl, sym, ap, ap₂, ◌∙◌}
 use Rattle.std.proofs.Math.Bool.{or-false}
-use Rattle.shader_runs.specs.Value.{Bytes}
-use Rattle.shader_runs.specs.Program.{CaseValue, Statement, Emit, Block, If, Switch, Continue}
-use Rattle.shader_runs.specs.Program.{Barrier, Act, Statements, end, then, Cases, no_case, case}
-use Rattle.shader_runs.specs.Program.{Module, from, binds, holds_continue, any_continue}
-use Rattle.shader_runs.specs.Program.{some_case_continues, expression_of, Jump, Jumps, is_continue}
-use Rattle.shader_runs.specs.Program.{jump_told}
-use Rattle.shader_runs.specs.Text.{Tree, Lines}
-use Rattle.shader_runs.specs.TextRun.{some_continue, some_group_continues, among, group_has}
-use Rattle.shader_runs.specs.ProgramRun.{Call, barrier_words, same_case_value, has_case_value}
-use Rattle.shader_runs.specs.Scope.{Bound, Handles, Names, Naming, bound_name, after_one}
-use Rattle.shader_runs.specs.Scope.{named_after, named_by, named_by_all, after, after_all}
-use Rattle.shader_runs.specs.Scope.{forgotten_if}
-use Rattle.shader_runs.specs.Form.{value_form, own_form, written_form, let_if, lets, perform_each}
-use Rattle.shader_runs.specs.Form.{form, form_all, form_cases, value_if}
+use Rattle.shader_runs.proofs.Common.{Bytes, CaseValue, Statement, Emit, Block, If, Switch, Continue, Barrier, Act}
+use Rattle.shader_runs.proofs.Common.{Statements, end, then, Cases, no_case, case, Module, from, binds, holds_continue}
+use Rattle.shader_runs.proofs.Common.{any_continue, some_case_continues, expression_of, Jump, Jumps, is_continue, jump_told}
+use Rattle.shader_runs.proofs.Common.{Tree, Lines, some_continue, some_group_continues, among, group_has, Call}
+use Rattle.shader_runs.proofs.Common.{barrier_words, same_case_value, has_case_value, Bound, Handles, Names, Naming}
+use Rattle.shader_runs.proofs.Common.{bound_name, after_one, named_after, named_by, named_by_all, after, after_all}
+use Rattle.shader_runs.proofs.Common.{forgotten_if, value_form, own_form, written_form, let_if, lets, perform_each, form}
+use Rattle.shader_runs.proofs.Common.{form_all, form_cases, value_if}
 use Rattle.shader_runs.proofs.Relation.{Extends, extends_refl, extends_trans, extends_forgotten}
 use Rattle.shader_runs.proofs.Evaluation.{naming}
 use Rattle.shader_runs.proofs.Emission.{extends_update, extends_emit}

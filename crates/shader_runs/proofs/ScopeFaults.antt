@@ -4,15 +4,12 @@ use Rattle.std.proofs.Common.{not, List, [], ◌∷◌, Option, Some, None, ◌&
 use Rattle.std.proofs.Common.{true≢false, arith}
 use Rattle.std.proofs.lemmas.Option.{same_Some}
 use Rattle.std.specs.Prelude.{IsTrue, IsFalse, slice_get}
-use Rattle.shader_runs.specs.Program.{Statement, Emit, Store, Block, If, Switch, Loop, Return, Act}
-use Rattle.shader_runs.specs.Program.{Statements, end, then, Cases, no_case, case, Function}
-use Rattle.shader_runs.specs.Program.{expression_of, operands_of, binds, from, is_emittable, Jumps}
-use Rattle.shader_runs.specs.Scope.{Handles, Naming, before_local, bound_name, at_start, is_new}
-use Rattle.shader_runs.specs.Scope.{usable, usable_all, usable_if, after_one, after, after_all}
-use Rattle.shader_runs.specs.Scope.{named_after, named_by, named_by_all, may_emit, may_emit_all}
-use Rattle.shader_runs.specs.Scope.{may_give, fits, fits_all, fits_cases, first_values_fit}
-use Rattle.shader_runs.specs.Scope.{fits_function}
-use Rattle.shader_runs.specs.Premises.{AllBelow}
+use Rattle.shader_runs.proofs.Common.{Statement, Emit, Store, Block, If, Switch, Loop, Return, Act, Statements, end, then}
+use Rattle.shader_runs.proofs.Common.{Cases, no_case, case, Function, expression_of, operands_of, binds, from, is_emittable}
+use Rattle.shader_runs.proofs.Common.{Jumps, Handles, Naming, before_local, bound_name, at_start, is_new, usable}
+use Rattle.shader_runs.proofs.Common.{usable_all, usable_if, after_one, after, after_all, named_after, named_by}
+use Rattle.shader_runs.proofs.Common.{named_by_all, may_emit, may_emit_all, may_give, fits, fits_all, fits_cases}
+use Rattle.shader_runs.proofs.Common.{first_values_fit, fits_function, AllBelow}
 use Rattle.shader_runs.specs.ScopeRules.{IntroducedHandle, Emitted, AsResult, handle_of, InScope}
 use Rattle.shader_runs.specs.ScopeRules.{EachInScope, no_handle, and_handle, ScopeState}
 use Rattle.shader_runs.specs.ScopeRules.{start_state, following_one, following, after_turn}

@@ -6,24 +6,17 @@ use Rattle.std.proofs.Common.{refl, sym, ap, ◌∙◌, subst, true≢false, ari
 use Rattle.std.specs.Prelude.{IsTrue, ◌↔◌}
 use Rattle.std.proofs.lemmas.Bool.{or_right, lt-ltb, true_from_ne_false}
 use Rattle.std.proofs.lemmas.Option.{slice_get_within}
-use Rattle.shader_runs.specs.Value.{Bytes}
-use Rattle.shader_runs.specs.World.{update}
-use Rattle.shader_runs.specs.Program.{Expression, Constant, Argument, Local, Global, Load, Request}
-use Rattle.shader_runs.specs.Program.{Result, Statement, Emit, Store, Block, If, Switch, Loop}
-use Rattle.shader_runs.specs.Program.{Return, Act, Statements, end, then, Cases, no_case, case}
-use Rattle.shader_runs.specs.Program.{Function, argument_count, local_count, expression_of}
-use Rattle.shader_runs.specs.Program.{operands_of, is_counted, binds_as, binds, from}
-use Rattle.shader_runs.specs.Program.{holds_continue, is_pure, is_emittable, Jumps}
-use Rattle.shader_runs.specs.Scope.{Availability, Absent, Barred, Everywhere, Inline, Bound}
-use Rattle.shader_runs.specs.Scope.{Handles, Naming, before_local, bound_name, is_present, is_new}
-use Rattle.shader_runs.specs.Scope.{usable_as, usable, usable_all, usable_if, all_constant}
-use Rattle.shader_runs.specs.Scope.{is_constant_leaf, constant_test, is_constant_below}
-use Rattle.shader_runs.specs.Scope.{start_availability, at_start, availability_without_name}
-use Rattle.shader_runs.specs.Scope.{with_emitted_handle, after_one, named_after, named_by}
-use Rattle.shader_runs.specs.Scope.{named_by_all, after_emit, after, forgotten_handles}
-use Rattle.shader_runs.specs.Scope.{forgotten_one, forgotten_if, after_all, may_emit, may_emit_all}
-use Rattle.shader_runs.specs.Scope.{may_give, fits, fits_all, fits_cases, first_values_fit}
-use Rattle.shader_runs.specs.Premises.{AllBelow}
+use Rattle.shader_runs.proofs.Common.{Bytes, update, Expression, Constant, Argument, Local, Global, Load, Request, Result}
+use Rattle.shader_runs.proofs.Common.{Statement, Emit, Store, Block, If, Switch, Loop, Return, Act, Statements, end, then}
+use Rattle.shader_runs.proofs.Common.{Cases, no_case, case, Function, argument_count, local_count, expression_of}
+use Rattle.shader_runs.proofs.Common.{operands_of, is_counted, binds_as, binds, from, holds_continue, is_pure, is_emittable}
+use Rattle.shader_runs.proofs.Common.{Jumps, Availability, Absent, Barred, Everywhere, Inline, Bound, Handles, Naming}
+use Rattle.shader_runs.proofs.Common.{before_local, bound_name, is_present, is_new, usable_as, usable, usable_all}
+use Rattle.shader_runs.proofs.Common.{usable_if, all_constant, is_constant_leaf, constant_test, is_constant_below}
+use Rattle.shader_runs.proofs.Common.{start_availability, at_start, availability_without_name, with_emitted_handle}
+use Rattle.shader_runs.proofs.Common.{after_one, named_after, named_by, named_by_all, after_emit, after, forgotten_handles}
+use Rattle.shader_runs.proofs.Common.{forgotten_one, forgotten_if, after_all, may_emit, may_emit_all, may_give, fits}
+use Rattle.shader_runs.proofs.Common.{fits_all, fits_cases, first_values_fit, AllBelow}
 use Rattle.shader_runs.specs.ScopeRules.{IntroducedHandle, Emitted, AsResult, handle_of, IsAmong}
 use Rattle.shader_runs.specs.ScopeRules.{IsConstantTree, one_constant, over_constants}
 use Rattle.shader_runs.specs.ScopeRules.{AreConstantTrees, no_tree, and_tree, can_be_introduced}

@@ -5,33 +5,24 @@ use Rattle.std.proofs.Common.{cond, nat_eq, List, [], ◌∷◌, length, Option,
 use Rattle.std.proofs.Common.{ap, ◌∙◌, subst, arith, option_map}
 use Rattle.std.proofs.Math.Nat.{eq-or-lt_of_le}
 use Rattle.std.specs.Prelude.{option_and_then}
-use Rattle.shader_runs.specs.Value.{Bytes, same_bytes, PartTypes, Place, Selector, Value}
-use Rattle.shader_runs.specs.Value.{ShortCircuit, truth_in, integer_in, place_in, element_place}
-use Rattle.shader_runs.specs.Value.{place_to, place_type, takes_several}
-use Rattle.shader_runs.specs.World.{Event, Entry, Read, Write, entries, World, Meaning, bind}
-use Rattle.shader_runs.specs.Outcome.{Stuck, OutOfTurns, Outcome, Done, Continued, Broke, Returned}
-use Rattle.shader_runs.specs.Outcome.{Stopped, ReachedOrHalted, Gives, Halts, answer, Next}
-use Rattle.shader_runs.specs.Outcome.{and_then, and_continue, within, turn, and_again, turns}
-use Rattle.shader_runs.specs.Outcome.{after_switch, closed_outcome, closed_if, branch_by}
-use Rattle.shader_runs.specs.Outcome.{with_integer, or_stuck, reach, unless}
-use Rattle.shader_runs.specs.Program.{CaseValue, Numbered, Break, Continue, Return}
-use Rattle.shader_runs.specs.ProgramRun.{run_if_arguments_fit, decides, case_value_if}
-use Rattle.shader_runs.specs.Text.{Tree, Name, LiteralOf, Apply, Deref, AddressOf, Index, PartOf}
-use Rattle.shader_runs.specs.Text.{LogicalOf, Trees, no_more, more, Line, Let, Assign, Braces}
-use Rattle.shader_runs.specs.Text.{IfElse, SwitchOn, LoopOf, Perform, Lines, last, before, Groups}
-use Rattle.shader_runs.specs.Text.{no_group, group, Variable, TextFunction, JumpLine}
-use Rattle.shader_runs.specs.TextRun.{Denotation, IsValue, IsPlace, Scope, Words, read_value}
-use Rattle.shader_runs.specs.TextRun.{put_before, followed_by, word_answer, word_reached, as_value}
-use Rattle.shader_runs.specs.TextRun.{dereference, address_reached, part_reached, index_reached}
-use Rattle.shader_runs.specs.TextRun.{index_into, part_picked, undecided_reached, logical_reached}
-use Rattle.shader_runs.specs.TextRun.{evaluate, evaluate_all, value_of, with_value, with_place}
-use Rattle.shader_runs.specs.TextRun.{perform_outcome, has_continue, break_line, return_line, among}
-use Rattle.shader_runs.specs.TextRun.{group_has, follow, follow_all, follow_in_loop, follow_groups}
-use Rattle.shader_runs.specs.TextRun.{with_parameters, place_picked, is_operation, with_variables}
-use Rattle.shader_runs.specs.TextRun.{put_first, first_followed, first_of_each, entered_by}
-use Rattle.shader_runs.specs.TextRun.{follow_body, follow_call, WordUse, NamesFunction}
-use Rattle.shader_runs.specs.TextRun.{AsksForEvent, Operates, MeansNothing, respond_by_use}
-use Rattle.shader_runs.specs.TextRun.{first_then, with_variable}
+use Rattle.shader_runs.proofs.Common.{Bytes, same_bytes, PartTypes, Place, Selector, Value, ShortCircuit, truth_in}
+use Rattle.shader_runs.proofs.Common.{integer_in, place_in, element_place, place_to, place_type, takes_several, Event}
+use Rattle.shader_runs.proofs.Common.{Entry, Read, Write, entries, World, Meaning, bind, Stuck, OutOfTurns, Outcome, Done}
+use Rattle.shader_runs.proofs.Common.{Continued, Broke, Returned, Stopped, ReachedOrHalted, Gives, Halts, answer, Next}
+use Rattle.shader_runs.proofs.Common.{and_then, and_continue, within, turn, and_again, turns, after_switch, closed_outcome}
+use Rattle.shader_runs.proofs.Common.{closed_if, branch_by, with_integer, or_stuck, reach, unless, CaseValue, Numbered}
+use Rattle.shader_runs.proofs.Common.{Break, Continue, Return, run_if_arguments_fit, decides, case_value_if, Tree, Name}
+use Rattle.shader_runs.proofs.Common.{LiteralOf, Apply, Deref, AddressOf, Index, PartOf, LogicalOf, Trees, no_more, more}
+use Rattle.shader_runs.proofs.Common.{Line, Let, Assign, Braces, IfElse, SwitchOn, LoopOf, Perform, Lines, last, before}
+use Rattle.shader_runs.proofs.Common.{Groups, no_group, group, Variable, TextFunction, JumpLine, Denotation, IsValue}
+use Rattle.shader_runs.proofs.Common.{IsPlace, Scope, Words, read_value, put_before, followed_by, word_answer, word_reached}
+use Rattle.shader_runs.proofs.Common.{as_value, dereference, address_reached, part_reached, index_reached, index_into}
+use Rattle.shader_runs.proofs.Common.{part_picked, undecided_reached, logical_reached, evaluate, evaluate_all, value_of}
+use Rattle.shader_runs.proofs.Common.{with_value, with_place, perform_outcome, has_continue, break_line, return_line, among}
+use Rattle.shader_runs.proofs.Common.{group_has, follow, follow_all, follow_in_loop, follow_groups, with_parameters}
+use Rattle.shader_runs.proofs.Common.{place_picked, is_operation, with_variables, put_first, first_followed, first_of_each}
+use Rattle.shader_runs.proofs.Common.{entered_by, follow_body, follow_call, WordUse, NamesFunction, AsksForEvent, Operates}
+use Rattle.shader_runs.proofs.Common.{MeansNothing, respond_by_use, first_then, with_variable}
 use Rattle.shader_runs.proofs.Process.{events_of, reached_events}
 
 -- the second history is the first with later events

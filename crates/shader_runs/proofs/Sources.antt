@@ -2,18 +2,14 @@
 -- before.
 use Rattle.std.proofs.Common.{◌≡◌, ◌⊎◌, inl, inr, ⊎_elim, ℕ, suc, ◌<◌, ◌≤◌, Bool, true, false, cond}
 use Rattle.std.proofs.Common.{List, [], ◌∷◌, Option, Some, None, refl, sym, subst, arith}
-use Rattle.shader_runs.specs.Value.{Bytes}
-use Rattle.shader_runs.specs.World.{update}
-use Rattle.shader_runs.specs.Program.{Statement, Emit, Block, If, Switch, Loop, Act, Statements}
-use Rattle.shader_runs.specs.Program.{end, then, Cases, no_case, case, expression_of, operands_of}
-use Rattle.shader_runs.specs.Program.{is_named, binds, from, holds_continue, is_pure}
-use Rattle.shader_runs.specs.Scope.{Availability, Absent, Everywhere, Inline, Bound, Handles}
-use Rattle.shader_runs.specs.Scope.{Naming, bound_name, usable_all, is_new}
-use Rattle.shader_runs.specs.Scope.{availability_without_name, with_emitted_handle, after_one}
-use Rattle.shader_runs.specs.Scope.{named_after, named_after_all, after_emit, named_by}
-use Rattle.shader_runs.specs.Scope.{named_by_all, named_by_cases, after_result, after, after_all}
-use Rattle.shader_runs.specs.Scope.{forgotten_one, forgotten_if, start_availability, at_start}
-use Rattle.shader_runs.specs.Premises.{FixedName, FixedKey, NumberedKey, NamedKey}
+use Rattle.shader_runs.proofs.Common.{Bytes, update, Statement, Emit, Block, If, Switch, Loop, Act, Statements, end, then}
+use Rattle.shader_runs.proofs.Common.{Cases, no_case, case, expression_of, operands_of, is_named, binds, from}
+use Rattle.shader_runs.proofs.Common.{holds_continue, is_pure, Availability, Absent, Everywhere, Inline, Bound, Handles}
+use Rattle.shader_runs.proofs.Common.{Naming, bound_name, usable_all, is_new, availability_without_name}
+use Rattle.shader_runs.proofs.Common.{with_emitted_handle, after_one, named_after, named_after_all, after_emit, named_by}
+use Rattle.shader_runs.proofs.Common.{named_by_all, named_by_cases, after_result, after, after_all, forgotten_one}
+use Rattle.shader_runs.proofs.Common.{forgotten_if, start_availability, at_start, FixedName, FixedKey, NumberedKey}
+use Rattle.shader_runs.proofs.Common.{NamedKey}
 use Rattle.shader_runs.proofs.Update.{update_cases}
 
 pub same_name : (x y : Bytes) → Bound x ≡ Bound y → x ≡ y

@@ -4,20 +4,13 @@ use Rattle.std.proofs.Common.{◌∷◌, length, Option, Some, None, ◌&&◌, �
 use Rattle.std.proofs.Common.{true≢false, arith}
 use Rattle.std.specs.Prelude.{IsTrue}
 use Rattle.std.proofs.lemmas.Option.{slice_get_within}
-use Rattle.shader_runs.specs.Value.{ValueType, Value, has_type, has_types}
-use Rattle.shader_runs.specs.World.{Environment, Meaning}
-use Rattle.shader_runs.specs.Program.{Swizzle, Logical, AccessIndex, Access, Operator, Expression}
-use Rattle.shader_runs.specs.Program.{Constant, Function, expression_of, handle_type, operands_of}
-use Rattle.shader_runs.specs.Program.{Module, is_pure}
-use Rattle.shader_runs.specs.ProgramRun.{Call, used_value_as, used_value, also, used_values}
-use Rattle.shader_runs.specs.ProgramRun.{gathered_value, all_of, or_constant, constant_as}
-use Rattle.shader_runs.specs.ProgramRun.{constant_below, constants_at_start}
-use Rattle.shader_runs.specs.TextRun.{Scope}
-use Rattle.shader_runs.specs.Scope.{all_constant, is_constant_leaf, constant_test}
-use Rattle.shader_runs.specs.Scope.{is_constant_below, start_availability, at_start, is_present}
-use Rattle.shader_runs.specs.Scope.{usable, usable_as, usable_all}
-use Rattle.shader_runs.specs.Premises.{AllBelow, LeafFits, LeafTyped, handle_types, IsTypedIn}
-use Rattle.shader_runs.specs.Premises.{EnvironmentFits}
+use Rattle.shader_runs.proofs.Common.{ValueType, Value, has_type, has_types, Environment, Meaning, Swizzle, Logical}
+use Rattle.shader_runs.proofs.Common.{AccessIndex, Access, Operator, Expression, Constant, Function, expression_of}
+use Rattle.shader_runs.proofs.Common.{handle_type, operands_of, Module, is_pure, Call, used_value_as, used_value, also}
+use Rattle.shader_runs.proofs.Common.{used_values, gathered_value, all_of, or_constant, constant_as, constant_below}
+use Rattle.shader_runs.proofs.Common.{constants_at_start, Scope, all_constant, is_constant_leaf, constant_test}
+use Rattle.shader_runs.proofs.Common.{is_constant_below, start_availability, at_start, is_present, usable, usable_as}
+use Rattle.shader_runs.proofs.Common.{usable_all, AllBelow, LeafFits, LeafTyped, handle_types, IsTypedIn, EnvironmentFits}
 use Rattle.shader_runs.proofs.Update.{and_left, and_right, and_both}
 use Rattle.shader_runs.proofs.Relation.{TypedValue, Stands}
 use Rattle.shader_runs.proofs.Form.{constant_typed}

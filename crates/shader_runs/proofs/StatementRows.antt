@@ -2,12 +2,9 @@
 -- on the bound.
 use Rattle.std.proofs.Common.{◌≡◌, ℕ, true, false, List, refl, ap, arith}
 use Rattle.std.specs.Prelude.{IsTrue, ◌∷◌, get_or, codes}
-use Rattle.shader_runs.specs.Value.{Value, AtOrigin, LocalOrigin, ShortCircuitAnd, ShortCircuitOr}
-use Rattle.shader_runs.specs.World.{Event, Read}
-use Rattle.shader_runs.specs.Outcome.{OutOfTurns, Gives, Done, Stopped, Next, and_then, turns}
-use Rattle.shader_runs.specs.Outcome.{answer}
-use Rattle.shader_runs.specs.Text.{TextFunction}
-use Rattle.shader_runs.specs.Form.{form_module}
+use Rattle.shader_runs.proofs.Common.{Value, AtOrigin, LocalOrigin, ShortCircuitAnd, ShortCircuitOr, Event, Read}
+use Rattle.shader_runs.proofs.Common.{OutOfTurns, Gives, Done, Stopped, Next, and_then, turns, answer, TextFunction}
+use Rattle.shader_runs.proofs.Common.{form_module}
 use Rattle.shader_runs.specs.WorkedModules.{Example, CallEnd, module_of, outer_of, namings_of}
 use Rattle.shader_runs.specs.WorkedModules.{text_with, run_example, follow_example, IsWorked}
 use Rattle.shader_runs.specs.StatementRows.{StatementRowsHold, LogicalRow, ReadOnTheRight}

@@ -2,36 +2,24 @@
 use Rattle.std.proofs.Common.{◌≡◌, ℕ, Bool, true, false, cond, List, [], ◌∷◌, ◌++◌, Option, Some}
 use Rattle.std.proofs.Common.{None, ◌||◌, refl, sym, ap, ap₂, ◌∙◌, subst, true≢false}
 use Rattle.std.specs.Prelude.{IsTrue, ℤ}
-use Rattle.shader_runs.specs.Value.{Bytes, PartTypes, has_type, has_types, Value, integer_in}
-use Rattle.shader_runs.specs.World.{Event, Ask, update, bind}
-use Rattle.shader_runs.specs.Outcome.{Outcome, Next, Done, Returned, ReachedOrHalted, Gives, Halts}
-use Rattle.shader_runs.specs.Outcome.{and_then, within, turn, turns, after_switch, branch_by}
-use Rattle.shader_runs.specs.Outcome.{with_integer, closed_outcome, closed_if, or_stuck, reach}
-use Rattle.shader_runs.specs.Outcome.{unless, jump_outcome}
-use Rattle.shader_runs.specs.Program.{Expression, Result, Action, Asked, Called, CaseValue}
-use Rattle.shader_runs.specs.Program.{Numbered, Statement, Emit, Store, Block, If, Switch, Loop}
-use Rattle.shader_runs.specs.Program.{Break, Continue, Return, Barrier, Act, Statements, end, then}
-use Rattle.shader_runs.specs.Program.{Cases, no_case, case, from, holds_continue, any_continue}
-use Rattle.shader_runs.specs.Program.{some_case_continues, expression_of, handle_type, BarrierBits}
-use Rattle.shader_runs.specs.Program.{Function, function_numbered, Module, Jump, Jumps, is_continue}
-use Rattle.shader_runs.specs.Program.{jump_told}
-use Rattle.shader_runs.specs.ProgramRun.{Call, EmittedValues, combined_value, used_value}
-use Rattle.shader_runs.specs.ProgramRun.{used_value_as, used_values, action_answer, with_result}
-use Rattle.shader_runs.specs.ProgramRun.{leave, return_outcome, barrier_words, ask_each}
-use Rattle.shader_runs.specs.ProgramRun.{same_case_value, has_case_value, case_value_if, run}
-use Rattle.shader_runs.specs.ProgramRun.{run_all, run_cases, run_on}
-use Rattle.shader_runs.specs.Text.{Lines}
-use Rattle.shader_runs.specs.TextRun.{IsValue, Scope, read_value, as_value, word_reached}
-use Rattle.shader_runs.specs.TextRun.{perform_outcome, evaluate_all, value_of, with_value}
-use Rattle.shader_runs.specs.TextRun.{AsksForEvent, respond_by_use, break_line, return_line, among}
-use Rattle.shader_runs.specs.TextRun.{group_has, follow_all, follow_in_loop, follow_groups}
-use Rattle.shader_runs.specs.Scope.{usable_all, is_present, Bound, Handles, Names, usable}
-use Rattle.shader_runs.specs.Scope.{usable_if, named_by, named_by_all, after, after_all}
-use Rattle.shader_runs.specs.Scope.{forgotten_if}
-use Rattle.shader_runs.specs.Form.{word_of, value_forms, written_form, value_at, value_if}
-use Rattle.shader_runs.specs.Form.{perform_each, form, form_all, form_cases}
-use Rattle.shader_runs.specs.Premises.{IsNoName, handle_types, CallFits, ActionFits, ReturnFits}
-use Rattle.shader_runs.specs.Premises.{IsResult, EachAsks}
+use Rattle.shader_runs.proofs.Common.{Bytes, PartTypes, has_type, has_types, Value, integer_in, Event, Ask, update, bind}
+use Rattle.shader_runs.proofs.Common.{Outcome, Next, Done, Returned, ReachedOrHalted, Gives, Halts, and_then, within, turn}
+use Rattle.shader_runs.proofs.Common.{turns, after_switch, branch_by, with_integer, closed_outcome, closed_if, or_stuck}
+use Rattle.shader_runs.proofs.Common.{reach, unless, jump_outcome, Expression, Result, Action, Asked, Called, CaseValue}
+use Rattle.shader_runs.proofs.Common.{Numbered, Statement, Emit, Store, Block, If, Switch, Loop, Break, Continue, Return}
+use Rattle.shader_runs.proofs.Common.{Barrier, Act, Statements, end, then, Cases, no_case, case, from, holds_continue}
+use Rattle.shader_runs.proofs.Common.{any_continue, some_case_continues, expression_of, handle_type, BarrierBits, Function}
+use Rattle.shader_runs.proofs.Common.{function_numbered, Module, Jump, Jumps, is_continue, jump_told, Call, EmittedValues}
+use Rattle.shader_runs.proofs.Common.{combined_value, used_value, used_value_as, used_values, action_answer, with_result}
+use Rattle.shader_runs.proofs.Common.{leave, return_outcome, barrier_words, ask_each, same_case_value, has_case_value}
+use Rattle.shader_runs.proofs.Common.{case_value_if, run, run_all, run_cases, run_on, Lines, IsValue, Scope, read_value}
+use Rattle.shader_runs.proofs.Common.{as_value, word_reached, perform_outcome, evaluate_all, value_of, with_value}
+use Rattle.shader_runs.proofs.Common.{AsksForEvent, respond_by_use, break_line, return_line, among, group_has, follow_all}
+use Rattle.shader_runs.proofs.Common.{follow_in_loop, follow_groups, usable_all, is_present, Bound, Handles, Names, usable}
+use Rattle.shader_runs.proofs.Common.{usable_if, named_by, named_by_all, after, after_all, forgotten_if, word_of}
+use Rattle.shader_runs.proofs.Common.{value_forms, written_form, value_at, value_if, perform_each, form, form_all}
+use Rattle.shader_runs.proofs.Common.{form_cases, IsNoName, handle_types, CallFits, ActionFits, ReturnFits, IsResult}
+use Rattle.shader_runs.proofs.Common.{EachAsks}
 use Rattle.shader_runs.proofs.Alike.{HoldsOf, Answers, same_answer, mistyped_answer, Alike, done}
 use Rattle.shader_runs.proofs.Alike.{continued, broke, returned_alike, stopped, mistyped}
 use Rattle.shader_runs.proofs.Alike.{typed_alike, Steps, weaker, then_alike, continue_alike}

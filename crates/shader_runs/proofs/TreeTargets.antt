@@ -2,19 +2,15 @@
 use Rattle.std.proofs.Common.{◌≡◌, ℕ, zero, suc, ◌<◌, Bool, true, false, List, [], ◌∷◌, ◌++◌, map}
 use Rattle.std.proofs.Common.{length, Option, Some, None, refl, sym, ap, ◌∙◌}
 use Rattle.std.proofs.lemmas.List.{map-append}
-use Rattle.shader_runs.specs.Value.{Bytes, MemberNamed, ValueType, PointerType, Selector}
-use Rattle.shader_runs.specs.Program.{ConstantTree, Fixed, NamedConstant, Composed, Indexing}
-use Rattle.shader_runs.specs.Program.{Picking, Joining, ConstantTrees, no_constant, constant}
-use Rattle.shader_runs.specs.Program.{Expression, Constant, Argument, Local, Global, Load, Operator}
-use Rattle.shader_runs.specs.Program.{Access, AccessIndex, Logical, Swizzle, Request, Result}
-use Rattle.shader_runs.specs.Program.{expression_of, handle_type, operands_of}
-use Rattle.shader_runs.specs.Scope.{Availability, Bound, Handles, ModuleNames, Naming}
-use Rattle.shader_runs.specs.Text.{Tree, Trees}
-use Rattle.shader_runs.specs.Form.{Plain, AsValue, AsPlace, value_form, place_form, value_forms}
-use Rattle.shader_runs.specs.Form.{value_forms_then, access_form, part_form, constant_form}
-use Rattle.shader_runs.specs.Form.{constant_forms, global_form, own_form, availability_form}
-use Rattle.shader_runs.specs.Form.{written_below, written_form, value_at, value_if}
-use Rattle.shader_runs.specs.Premises.{EachWord, EachWordOf, EachLeaf, EachLeafOf, IsLiteral}
+use Rattle.shader_runs.proofs.Common.{Bytes, MemberNamed, ValueType, PointerType, Selector, ConstantTree, Fixed}
+use Rattle.shader_runs.proofs.Common.{NamedConstant, Composed, Indexing, Picking, Joining, ConstantTrees, no_constant}
+use Rattle.shader_runs.proofs.Common.{constant, Expression, Constant, Argument, Local, Global, Load, Operator, Access}
+use Rattle.shader_runs.proofs.Common.{AccessIndex, Logical, Swizzle, Request, Result, expression_of, handle_type}
+use Rattle.shader_runs.proofs.Common.{operands_of, Availability, Bound, Handles, ModuleNames, Naming, Tree, Trees, Plain}
+use Rattle.shader_runs.proofs.Common.{AsValue, AsPlace, value_form, place_form, value_forms, value_forms_then, access_form}
+use Rattle.shader_runs.proofs.Common.{part_form, constant_form, constant_forms, global_form, own_form, availability_form}
+use Rattle.shader_runs.proofs.Common.{written_below, written_form, value_at, value_if, EachWord, EachWordOf, EachLeaf}
+use Rattle.shader_runs.proofs.Common.{EachLeafOf, IsLiteral}
 use Rattle.shader_runs.specs.Resolution.{Target, ConstantTarget, GlobalTarget, ArgumentTarget}
 use Rattle.shader_runs.specs.Resolution.{LocalTarget, LetTarget, LogicTarget, PartTarget}
 use Rattle.shader_runs.specs.Resolution.{WordTarget, Lookup, word_target, tree_targets}

@@ -6,23 +6,17 @@ use Rattle.std.proofs.Common.{eqb-true, eq-eqb, option_map}
 use Rattle.std.specs.Prelude.{IsTrue, option_and_then}
 use Rattle.std.proofs.lemmas.Bool.{eqb-false}
 use Rattle.std.proofs.lemmas.Option.{slice_get_within, none-some, same_Some}
-use Rattle.shader_runs.specs.Value.{Bytes, PartTypes, Place, place_type, Step, AtOrigin, GlobalOrigin}
-use Rattle.shader_runs.specs.Value.{Part, Selector, MemberNamed, ElementAt, step_to, step_at}
-use Rattle.shader_runs.specs.Value.{part_pointer, element_place, ValueType, BooleanType, IntegerType}
-use Rattle.shader_runs.specs.Value.{PointerType, OtherType, type_of, same_type, has_type, has_types}
-use Rattle.shader_runs.specs.Value.{same_bytes, Value, Truth, Whole, Pointer, Opaque, Word, Spelled}
-use Rattle.shader_runs.specs.Value.{PartWord, IndexWord, ShortCircuit, short_circuit_word, place_in}
-use Rattle.shader_runs.specs.World.{Meaning}
-use Rattle.shader_runs.specs.Program.{ConstantTree, Fixed, NamedConstant, Composed, Indexing}
-use Rattle.shader_runs.specs.Program.{Picking, Joining, ConstantTrees, no_constant, constant}
-use Rattle.shader_runs.specs.Program.{Expression, Constant, Operator, Access, AccessIndex, Logical}
-use Rattle.shader_runs.specs.Program.{Swizzle, Request, Function, expression_of, handle_type}
-use Rattle.shader_runs.specs.Program.{operands_of, Module, is_pure}
-use Rattle.shader_runs.specs.ProgramRun.{index_value_of, part_value, decides, undecided_value}
-use Rattle.shader_runs.specs.ProgramRun.{combined_value, constant_part_by}
-use Rattle.shader_runs.specs.Premises.{constant_type, constant_types_of, handle_types}
-use Rattle.shader_runs.specs.Premises.{ConstantTyped, IsNoPointer, ConstantsTyped, LeafTyped}
-use Rattle.shader_runs.specs.Premises.{IsTypedIn, AllTypedIn}
+use Rattle.shader_runs.proofs.Common.{Bytes, PartTypes, Place, place_type, Step, AtOrigin, GlobalOrigin, Part, Selector}
+use Rattle.shader_runs.proofs.Common.{MemberNamed, ElementAt, step_to, step_at, part_pointer, element_place, ValueType}
+use Rattle.shader_runs.proofs.Common.{BooleanType, IntegerType, PointerType, OtherType, type_of, same_type, has_type}
+use Rattle.shader_runs.proofs.Common.{has_types, same_bytes, Value, Truth, Whole, Pointer, Opaque, Word, Spelled, PartWord}
+use Rattle.shader_runs.proofs.Common.{IndexWord, ShortCircuit, short_circuit_word, place_in, Meaning, ConstantTree, Fixed}
+use Rattle.shader_runs.proofs.Common.{NamedConstant, Composed, Indexing, Picking, Joining, ConstantTrees, no_constant}
+use Rattle.shader_runs.proofs.Common.{constant, Expression, Constant, Operator, Access, AccessIndex, Logical, Swizzle}
+use Rattle.shader_runs.proofs.Common.{Request, Function, expression_of, handle_type, operands_of, Module, is_pure}
+use Rattle.shader_runs.proofs.Common.{index_value_of, part_value, decides, undecided_value, combined_value}
+use Rattle.shader_runs.proofs.Common.{constant_part_by, constant_type, constant_types_of, handle_types, ConstantTyped}
+use Rattle.shader_runs.proofs.Common.{IsNoPointer, ConstantsTyped, LeafTyped, IsTypedIn, AllTypedIn}
 use Rattle.shader_runs.specs.Typing.{Signature, constant_signatures, constants_signatures}
 use Rattle.shader_runs.specs.Typing.{signatures_of, IsOneOf, first_of, later_of, IsSpelled}
 use Rattle.shader_runs.specs.Typing.{in_function, in_initialiser, IsPart, AccessFits}

@@ -9,25 +9,19 @@ use Rattle.std.proofs.Common.{◌≡◌, ℕ, zero, suc, Bool, true, false, cond
 use Rattle.std.proofs.Common.{length, Option, Some, None, refl, sym, ap, ◌∙◌, subst, nat_eq}
 use Rattle.std.proofs.Common.{option_map}
 use Rattle.std.specs.Prelude.{IsTrue, unwrap_or}
-use Rattle.shader_runs.specs.Value.{Value, PartTypes, has_type, has_types}
-use Rattle.shader_runs.specs.World.{Event, World, Meaning, Settings, Environment, entries}
-use Rattle.shader_runs.specs.Outcome.{Done, ReachedOrHalted, and_then, after_switch}
-use Rattle.shader_runs.specs.Outcome.{branch_by, or_stuck, turn, turns, with_integer}
-use Rattle.shader_runs.specs.Program.{ConstantTree, Fixed, NamedConstant, Composed, Indexing}
-use Rattle.shader_runs.specs.Program.{Picking, Joining, ConstantTrees, no_constant, constant}
-use Rattle.shader_runs.specs.Program.{Expression, Constant, Request, CaseValue, Numbered, Statement}
-use Rattle.shader_runs.specs.Program.{Block, If, Switch, Loop, Statements, end, then, Cases}
-use Rattle.shader_runs.specs.Program.{no_case, case, Function, argument_count, function_numbered}
-use Rattle.shader_runs.specs.Program.{Module, constant_count, expression_of, handle_type}
-use Rattle.shader_runs.specs.Program.{operands_of}
-use Rattle.shader_runs.specs.ProgramRun.{Call, EmittedValues, has_case_value, case_value_if, leave}
-use Rattle.shader_runs.specs.ProgramRun.{run, run_all, run_body, run_call, run_cases}
-use Rattle.shader_runs.specs.ProgramRun.{run_if_arguments_fit, run_on, same_case_value, used_value}
-use Rattle.shader_runs.specs.ProgramRun.{tree_value}
+use Rattle.shader_runs.proofs.Common.{Value, PartTypes, has_type, has_types, Event, World, Meaning, Settings, Environment}
+use Rattle.shader_runs.proofs.Common.{entries, Done, ReachedOrHalted, and_then, after_switch, branch_by, or_stuck, turn}
+use Rattle.shader_runs.proofs.Common.{turns, with_integer, ConstantTree, Fixed, NamedConstant, Composed, Indexing, Picking}
+use Rattle.shader_runs.proofs.Common.{Joining, ConstantTrees, no_constant, constant, Expression, Constant, Request}
+use Rattle.shader_runs.proofs.Common.{CaseValue, Numbered, Statement, Block, If, Switch, Loop, Statements, end, then, Cases}
+use Rattle.shader_runs.proofs.Common.{no_case, case, Function, argument_count, function_numbered, Module, constant_count}
+use Rattle.shader_runs.proofs.Common.{expression_of, handle_type, operands_of, Call, EmittedValues, has_case_value}
+use Rattle.shader_runs.proofs.Common.{case_value_if, leave, run, run_all, run_body, run_call, run_cases}
+use Rattle.shader_runs.proofs.Common.{run_if_arguments_fit, run_on, same_case_value, used_value, tree_value, AllTypedIn}
+use Rattle.shader_runs.proofs.Common.{ConstantTyped, ConstantsTyped, IsTyped, LeafTyped, constant_type, constant_types_of}
+use Rattle.shader_runs.proofs.Common.{handle_types}
 use Rattle.shader_runs.specs.Constants.{all_found, environment_of, found_after, found_with}
 use Rattle.shader_runs.specs.Constants.{global_values, known_value, run_module}
-use Rattle.shader_runs.specs.Premises.{AllTypedIn, ConstantTyped, ConstantsTyped, IsTyped}
-use Rattle.shader_runs.specs.Premises.{LeafTyped, constant_type, constant_types_of, handle_types}
 use Rattle.shader_runs.proofs.Callees.{body_runs}
 use Rattle.shader_runs.proofs.Passes.{then_done}
 

@@ -7,15 +7,14 @@
 use Rattle.std.proofs.Common.{◌≡◌, ℕ, suc, ◌<◌, Bool, true, false, cond, ◌||◌, List, [], ◌∷◌}
 use Rattle.std.proofs.Common.{Option, Some, None, refl, sym, ap, ◌∙◌, subst}
 use Rattle.std.specs.Prelude.{IsTrue, IsFalse}
-use Rattle.shader_runs.specs.Value.{Bytes, ValueType}
-use Rattle.shader_runs.specs.Program.{Swizzle, Request, Global, Local, Argument, ConstantTree}
-use Rattle.shader_runs.specs.Program.{Fixed, NamedConstant, Composed, Indexing, Picking, Joining}
-use Rattle.shader_runs.specs.Program.{ConstantTrees, no_constant, constant, Expression, Constant}
-use Rattle.shader_runs.specs.Program.{Load, Statement, Emit, Store, Block, If, Switch, Loop, Return}
-use Rattle.shader_runs.specs.Program.{Act, Statements, end, then, Cases, no_case, case, Function}
-use Rattle.shader_runs.specs.Program.{Module, expression_of, binds_as, from, holds_continue}
-use Rattle.shader_runs.specs.Program.{any_continue, some_case_continues, Jumps}
-use Rattle.shader_runs.specs.Scope.{ModuleNames, Naming, before_local}
+use Rattle.shader_runs.proofs.Common.{Bytes, ValueType, Swizzle, Request, Global, Local, Argument, ConstantTree, Fixed}
+use Rattle.shader_runs.proofs.Common.{NamedConstant, Composed, Indexing, Picking, Joining, ConstantTrees, no_constant}
+use Rattle.shader_runs.proofs.Common.{constant, Expression, Constant, Load, Statement, Emit, Store, Block, If, Switch, Loop}
+use Rattle.shader_runs.proofs.Common.{Return, Act, Statements, end, then, Cases, no_case, case, Function, Module}
+use Rattle.shader_runs.proofs.Common.{expression_of, binds_as, from, holds_continue, any_continue, some_case_continues}
+use Rattle.shader_runs.proofs.Common.{Jumps, ModuleNames, Naming, before_local, IsRegular, AreRegular, CasesAreRegular}
+use Rattle.shader_runs.proofs.Common.{OnlyEmptyFalls, OnlyEmptyFallIn, OnlyEmptyCasesFall, LeafFits, EachWord, EachWordOf}
+use Rattle.shader_runs.proofs.Common.{OperatesOutside, ConstantsFit}
 use Rattle.shader_runs.specs.ScopeRules.{IntroducedHandle, Emitted, IsConstantTree, one_constant}
 use Rattle.shader_runs.specs.ScopeRules.{over_constants, AreConstantTrees, no_tree, and_tree}
 use Rattle.shader_runs.specs.ScopeRules.{InScope, constant_tree, argument, local, global, bound}
@@ -27,9 +26,6 @@ use Rattle.shader_runs.specs.ScopeRules.{following_one, following, after_turn, W
 use Rattle.shader_runs.specs.ScopeRules.{in_sight, as_a_tree, MayEmit, MayEmitEach, MayResult}
 use Rattle.shader_runs.specs.ScopeRules.{StatementHolds, StatementsHold, CasesHold, FirstValuesHold}
 use Rattle.shader_runs.specs.ScopeRules.{ScopeHolds}
-use Rattle.shader_runs.specs.Premises.{IsRegular, AreRegular, CasesAreRegular, OnlyEmptyFalls}
-use Rattle.shader_runs.specs.Premises.{OnlyEmptyFallIn, OnlyEmptyCasesFall, LeafFits, EachWord}
-use Rattle.shader_runs.specs.Premises.{EachWordOf, OperatesOutside, ConstantsFit}
 use Rattle.shader_runs.specs.Progress.{LoadFits, BreakIfFits, IsWellFormed, AreWellFormed}
 use Rattle.shader_runs.specs.Progress.{CasesAreWellFormed, AllWellFormed}
 use Rattle.shader_runs.proofs.Unfolded.{unfolded, unfolded_all, unfolded_cases, unfolded_on}

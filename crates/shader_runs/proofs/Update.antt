@@ -4,10 +4,8 @@ use Rattle.std.proofs.Common.{length, ◌&&◌, refl, sym, ap, ap₂, ◌∙◌,
 use Rattle.std.proofs.Common.{eq-eqb}
 use Rattle.std.proofs.lemmas.Bool.{eqb-false}
 use Rattle.std.specs.Prelude.{IsTrue}
-use Rattle.shader_runs.specs.Value.{Bytes, same_bytes, PartTypes, ValueType, BooleanType}
-use Rattle.shader_runs.specs.Value.{IntegerType, PointerType, OtherType, same_type, has_type}
-use Rattle.shader_runs.specs.Value.{has_types, Value}
-use Rattle.shader_runs.specs.World.{update, bind}
+use Rattle.shader_runs.proofs.Common.{Bytes, same_bytes, PartTypes, ValueType, BooleanType, IntegerType, PointerType}
+use Rattle.shader_runs.proofs.Common.{OtherType, same_type, has_type, has_types, Value, update, bind}
 
 pub and_left : (a b : Bool) → IsTrue (a && b) → IsTrue a
 and_left true b h = refl

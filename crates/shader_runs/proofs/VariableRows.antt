@@ -1,7 +1,6 @@
 -- The worked variable that is held, by computing.
 use Rattle.std.proofs.Common.{ℕ, zero, suc, refl, arith}
-use Rattle.shader_runs.specs.Program.{expression_of, handle_type}
-use Rattle.shader_runs.specs.Premises.{LeafFits}
+use Rattle.shader_runs.proofs.Common.{expression_of, handle_type, LeafFits}
 use Rattle.shader_runs.specs.WorkedModules.{module_of}
 use Rattle.shader_runs.specs.VariableRows.{VariableRowsHold, pointed_example, pointed_function}
 use Rattle.shader_runs.proofs.StatementRows.{worked}

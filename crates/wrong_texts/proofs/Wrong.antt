@@ -6,8 +6,7 @@ use Rattle.std.specs.Prelude.{◌&&◌}
 use Rattle.std.specs.List.{list_all}
 use Rattle.std.specs.Option.{is_some}
 use Rattle.naga_back.specs.declared.flags.WriterFlags.{WriterFlags}
-use Rattle.naga_info.specs.declared.info.ModuleInfo.{ModuleInfo}
-use Rattle.naga_ir.specs.declared.module.Module.{Module}
+use Rattle.module_semantics.specs.IR.{Module, ModuleInfo}
 use Rattle.module_semantics.specs.Faithful.{RunsAs}
 use Rattle.module_semantics.specs.ModuleShapes.{module_shape}
 use Rattle.module_semantics.specs.Names.{expression_name, module_names}

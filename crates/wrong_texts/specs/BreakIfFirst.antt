@@ -2,13 +2,9 @@
 --
 -- Throughout, r is what the module has beside what is told of it.
 use Rattle.std.specs.Prelude.{ℕ, List, [], ◌∷◌, None, Some}
-use Rattle.naga_info.specs.declared.info.ExpressionInfo.{ExpressionInfo}
-use Rattle.naga_info.specs.declared.info.ModuleInfo.{ModuleInfo}
-use Rattle.naga_ir.specs.StatementTree.{control_barrier, loop, no_statements, simple}
+use Rattle.module_semantics.specs.IR.{Barrier, ExpressionInfo, Function, Module, ModuleInfo, control_barrier, loop}
+use Rattle.module_semantics.specs.IR.{no_statements, simple}
 use Rattle.naga_ir.specs.declared.expression.Expression.TheVariants as expression
-use Rattle.naga_ir.specs.declared.flags.Barrier.{Barrier}
-use Rattle.naga_ir.specs.declared.module.Function.{Function}
-use Rattle.naga_ir.specs.declared.module.Module.{Module}
 use Rattle.wgsl_text.specs.WorkedTrees.{lines}
 use Rattle.wrong_texts.specs.Modules.{Rest, argument, block_of, boolean, c_label, function_of}
 use Rattle.wrong_texts.specs.Modules.{info_of, known, module_of, no_flags, one}

@@ -10,23 +10,13 @@ use Rattle.std.specs.Option.{option_map}
 use Rattle.std.specs.declared.string.String.{String}
 use Rattle.indexmap.specs.IndexMap.{with_entries}
 use Rattle.naga_back.specs.declared.flags.WriterFlags.{WriterFlags}
-use Rattle.naga_info.specs.declared.info.ExpressionInfo.{ExpressionInfo}
-use Rattle.naga_info.specs.declared.info.ModuleInfo.{ModuleInfo}
+use Rattle.module_semantics.specs.IR.{BlockTree, Expression, ExpressionInfo, Function, FunctionArgument}
+use Rattle.module_semantics.specs.IR.{FunctionResult, LocalVariable, Module, ModuleInfo, Scalar, StatementTree}
+use Rattle.module_semantics.specs.IR.{TypeInner, Type_, emit, no_statements, return, simple, statement}
 use Rattle.naga_info.specs.declared.info.TypeResolution.TheVariants as resolution
-use Rattle.naga_ir.specs.StatementTree.{BlockTree, StatementTree, emit, no_statements, return}
-use Rattle.naga_ir.specs.StatementTree.{simple, statement}
-use Rattle.naga_ir.specs.declared.expression.Expression.{Expression}
-use Rattle.naga_ir.specs.declared.module.Function.{Function}
-use Rattle.naga_ir.specs.declared.module.FunctionArgument.{FunctionArgument}
-use Rattle.naga_ir.specs.declared.module.FunctionResult.{FunctionResult}
-use Rattle.naga_ir.specs.declared.module.LocalVariable.{LocalVariable}
-use Rattle.naga_ir.specs.declared.module.Module.{Module}
 use Rattle.naga_ir.specs.declared.types.AddressSpace.TheVariants as space
-use Rattle.naga_ir.specs.declared.types.Scalar.{Scalar}
 use Rattle.naga_ir.specs.declared.types.ScalarKind.TheVariants as kind
-use Rattle.naga_ir.specs.declared.types.TypeInner.{TypeInner}
 use Rattle.naga_ir.specs.declared.types.TypeInner.TheVariants as inner
-use Rattle.naga_ir.specs.declared.types.Type_.{Type_}
 use Rattle.shader_runs.specs.Value.{Value, Whole}
 use Rattle.shader_runs.specs.World.{Settings, World}
 use native.Mathlib.Bridge.{le_by_compare}

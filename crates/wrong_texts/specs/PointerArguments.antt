@@ -2,14 +2,10 @@
 --
 -- Throughout, r is what the module has beside what is told of it.
 use Rattle.std.specs.Prelude.{◌≡◌, ℕ, pos, List, [], ◌∷◌, None, Some, codes}
-use Rattle.naga_info.specs.declared.info.ExpressionInfo.{ExpressionInfo}
-use Rattle.naga_info.specs.declared.info.ModuleInfo.{ModuleInfo}
+use Rattle.module_semantics.specs.IR.{ExpressionInfo, Function, Module, ModuleInfo, TypeInner}
 use Rattle.naga_info.specs.declared.info.TypeResolution.TheVariants as resolution
 use Rattle.naga_ir.specs.declared.expression.Expression.TheVariants as expression
-use Rattle.naga_ir.specs.declared.module.Function.{Function}
-use Rattle.naga_ir.specs.declared.module.Module.{Module}
 use Rattle.naga_ir.specs.declared.types.AddressSpace.TheVariants as space
-use Rattle.naga_ir.specs.declared.types.TypeInner.{TypeInner}
 use Rattle.naga_ir.specs.declared.types.TypeInner.TheVariants as inner
 use Rattle.naga_ir.specs.declared.types.VectorSize.TheVariants as vector
 use Rattle.module_semantics.specs.ModuleShapes.{module_shape}

@@ -3,11 +3,8 @@
 --
 -- Throughout, r is what the module has beside what is told of it.
 use Rattle.std.specs.Prelude.{◌≡◌, ℕ, ℤ, pos, true, cond, List, [], ◌∷◌, Some, codes}
-use Rattle.naga_info.specs.declared.info.ExpressionInfo.{ExpressionInfo}
-use Rattle.naga_info.specs.declared.info.ModuleInfo.{ModuleInfo}
+use Rattle.module_semantics.specs.IR.{ExpressionInfo, Function, Module, ModuleInfo}
 use Rattle.naga_ir.specs.declared.expression.Expression.TheVariants as expression
-use Rattle.naga_ir.specs.declared.module.Function.{Function}
-use Rattle.naga_ir.specs.declared.module.Module.{Module}
 use Rattle.module_semantics.specs.ModuleShapes.{module_shape}
 use Rattle.shader_runs.specs.Constants.{follow_module, run_module}
 use Rattle.shader_runs.specs.Outcome.{Gives}

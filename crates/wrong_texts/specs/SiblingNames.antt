@@ -2,12 +2,8 @@
 --
 -- Throughout, r is what the module has beside what is told of it.
 use Rattle.std.specs.Prelude.{ℕ, List, [], ◌∷◌, None, Some, codes}
-use Rattle.naga_info.specs.declared.info.ExpressionInfo.{ExpressionInfo}
-use Rattle.naga_info.specs.declared.info.ModuleInfo.{ModuleInfo}
-use Rattle.naga_ir.specs.StatementTree.{BlockTree, branch}
+use Rattle.module_semantics.specs.IR.{BlockTree, ExpressionInfo, Function, Module, ModuleInfo, branch}
 use Rattle.naga_ir.specs.declared.expression.Expression.TheVariants as expression
-use Rattle.naga_ir.specs.declared.module.Function.{Function}
-use Rattle.naga_ir.specs.declared.module.Module.{Module}
 use Rattle.naga_ir.specs.declared.operators.BinaryOperator.TheVariants as operator
 use Rattle.shader_runs.specs.Resolution.{ArgumentTarget, LetTarget, OperandsEnd, WordTarget}
 use Rattle.wgsl_text.specs.Declarations.{Program}

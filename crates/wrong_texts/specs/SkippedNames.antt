@@ -3,13 +3,10 @@
 --
 -- Throughout, r is what the module has beside what is told of it.
 use Rattle.std.specs.Prelude.{ℕ, pos, List, [], ◌∷◌, None, Some, codes}
-use Rattle.naga_info.specs.declared.info.ExpressionInfo.{ExpressionInfo}
-use Rattle.naga_info.specs.declared.info.ModuleInfo.{ModuleInfo}
-use Rattle.naga_ir.specs.StatementTree.{branch, continue, loop, no_statements, simple, store}
+use Rattle.module_semantics.specs.IR.{ExpressionInfo, Function, Module, ModuleInfo, branch, continue, loop}
+use Rattle.module_semantics.specs.IR.{no_statements, simple, store}
 use Rattle.naga_ir.specs.declared.expression.Expression.TheVariants as expression
 use Rattle.naga_ir.specs.declared.expression.Literal.TheVariants as literal
-use Rattle.naga_ir.specs.declared.module.Function.{Function}
-use Rattle.naga_ir.specs.declared.module.Module.{Module}
 use Rattle.naga_ir.specs.declared.operators.BinaryOperator.TheVariants as operator
 use Rattle.shader_runs.specs.Resolution.{ArgumentTarget, LetTarget, LiteralTarget, LocalTarget}
 use Rattle.shader_runs.specs.Resolution.{OperandsEnd, WordTarget}

@@ -6,8 +6,7 @@
 --
 -- Throughout, m is a module, and info is what is known of it.
 use Rattle.std.specs.Prelude.{Bool, ◌&&◌}
-use Rattle.naga_ir.specs.declared.module.Module.{Module}
-use Rattle.naga_info.specs.declared.info.ModuleInfo.{ModuleInfo}
+use Rattle.module_semantics.specs.IR.{Module, ModuleInfo}
 use Rattle.module_semantics.specs.acceptance.AgreeingOperators.{module_operators_agree}
 use Rattle.module_semantics.specs.acceptance.Ranges.{module_ranges_fit}
 use Rattle.module_semantics.specs.acceptance.Soundness.{module_is_sound}

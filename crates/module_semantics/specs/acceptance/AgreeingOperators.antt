@@ -17,20 +17,10 @@ use Rattle.naga_ir.specs.contracts.operators.BinaryOperator.{the_type as binary_
 use Rattle.naga_ir.specs.contracts.operators.MathFunction.{the_type as math_functions}
 use Rattle.naga_ir.specs.contracts.operators.RelationalFunction.{the_type as relations}
 use Rattle.naga_ir.specs.contracts.operators.UnaryOperator.{the_type as unary_operators}
-use Rattle.naga_ir.specs.Operands.{expression_operands}
-use Rattle.naga_ir.specs.declared.expression.Expression.{Expression}
+use Rattle.module_semantics.specs.IR.{Expression, ExpressionInfo, Function, Handle, Module, ModuleInfo, ScalarKind}
+use Rattle.module_semantics.specs.IR.{SwizzleComponent, TypeInner, TypeResolution, Type_, Value, VectorSize}
+use Rattle.module_semantics.specs.IR.{expression_operands}
 use Rattle.naga_ir.specs.declared.expression.Expression.TheVariants as expression
-use Rattle.naga_ir.specs.declared.expression.SwizzleComponent.{SwizzleComponent}
-use Rattle.naga_ir.specs.declared.module.Function.{Function}
-use Rattle.naga_ir.specs.declared.module.Module.{Module}
-use Rattle.naga_ir.specs.declared.types.ScalarKind.{ScalarKind}
-use Rattle.naga_ir.specs.declared.types.Type_.{Type_}
-use Rattle.naga_ir.specs.declared.types.TypeInner.{TypeInner}
-use Rattle.naga_ir.specs.declared.types.VectorSize.{VectorSize}
-use Rattle.naga_info.specs.declared.info.ExpressionInfo.{ExpressionInfo}
-use Rattle.naga_info.specs.declared.info.ModuleInfo.{ModuleInfo}
-use Rattle.naga_info.specs.declared.info.TypeResolution.{TypeResolution}
-use Rattle.naga_info.specs.declared.info.TypeResolution.TheVariants.{Handle, Value}
 use Rattle.module_semantics.specs.AlikeTypes.{type_identity, has_type_form}
 use Rattle.module_semantics.specs.acceptance.Operations.{Operation, all_agree}
 use Rattle.module_semantics.specs.Conversions.{conversion_target, keeps_bits}

@@ -8,24 +8,14 @@ use Rattle.std.specs.Prelude.{ℕ, Bool, true, false, List, ◌==◌}
 use Rattle.std.specs.Prelude.{Option, Some, None, if◌then◌else◌, slice_get}
 use Rattle.std.specs.List.{list_all, enumerate_from}
 use Rattle.std.specs.Option.{option_map, option_map_or, option_and_then}
-use Rattle.naga_ir.specs.declared.expression.Expression.{Expression}
+use Rattle.module_semantics.specs.IR.{AddressSpace, BinaryOperator, Expression, Function, Handle, Module, Scalar}
+use Rattle.module_semantics.specs.IR.{ScalarKind, TypeInner, TypeResolution, Type_, Value, VectorSize, literal_scalar}
+use Rattle.module_semantics.specs.IR.{scalar_of}
 use Rattle.naga_ir.specs.declared.expression.Expression.TheVariants as expression
-use Rattle.naga_ir.specs.Literals.{literal_scalar, scalar_of}
-use Rattle.naga_ir.specs.declared.module.Function.{Function}
-use Rattle.naga_ir.specs.declared.module.Module.{Module}
-use Rattle.naga_ir.specs.declared.operators.BinaryOperator.{BinaryOperator}
 use Rattle.naga_ir.specs.declared.operators.BinaryOperator.TheVariants as binary
-use Rattle.naga_ir.specs.declared.types.AddressSpace.{AddressSpace}
 use Rattle.naga_ir.specs.declared.types.AddressSpace.TheVariants as space
-use Rattle.naga_ir.specs.declared.types.Scalar.{Scalar}
-use Rattle.naga_ir.specs.declared.types.ScalarKind.{ScalarKind}
 use Rattle.naga_ir.specs.declared.types.ScalarKind.TheVariants as kind
-use Rattle.naga_ir.specs.declared.types.Type_.{Type_}
-use Rattle.naga_ir.specs.declared.types.TypeInner.{TypeInner}
 use Rattle.naga_ir.specs.declared.types.TypeInner.TheVariants as inner
-use Rattle.naga_ir.specs.declared.types.VectorSize.{VectorSize}
-use Rattle.naga_info.specs.declared.info.TypeResolution.{TypeResolution}
-use Rattle.naga_info.specs.declared.info.TypeResolution.TheVariants.{Handle, Value}
 use Rattle.module_semantics.specs.AlikeTypes.{are_alike}
 use Rattle.module_semantics.specs.TypeParts.{known_inner, component_scalar, vector_scalar}
 use Rattle.module_semantics.specs.TypeParts.{known_pointee, part_type}

@@ -8,18 +8,10 @@
 -- expression, t a type, and r a type that is known.
 use Rattle.std.specs.Prelude.{Bool, true, false, ◌&&◌, ◌==◌, not, List, length}
 use Rattle.std.specs.List.{list_all, zip}
-use Rattle.naga_ir.specs.declared.module.EntryPoint.{EntryPoint}
-use Rattle.naga_ir.specs.declared.module.Function.{Function}
-use Rattle.naga_ir.specs.declared.module.Module.{Module}
-use Rattle.naga_ir.specs.declared.types.AddressSpace.{AddressSpace}
+use Rattle.module_semantics.specs.IR.{AddressSpace, EntryPoint, ExpressionInfo, Function, Handle, Module, ModuleInfo}
+use Rattle.module_semantics.specs.IR.{TypeInner, TypeResolution, Type_, Value}
 use Rattle.naga_ir.specs.declared.types.AddressSpace.TheVariants as space
-use Rattle.naga_ir.specs.declared.types.Type_.{Type_}
-use Rattle.naga_ir.specs.declared.types.TypeInner.{TypeInner}
 use Rattle.naga_ir.specs.declared.types.TypeInner.TheVariants as inner
-use Rattle.naga_info.specs.declared.info.ExpressionInfo.{ExpressionInfo}
-use Rattle.naga_info.specs.declared.info.ModuleInfo.{ModuleInfo}
-use Rattle.naga_info.specs.declared.info.TypeResolution.{TypeResolution}
-use Rattle.naga_info.specs.declared.info.TypeResolution.TheVariants.{Handle, Value}
 use Rattle.naga_spelling.specs.Spelling.{is_struct}
 
 -- two lists are equally long, and their items pass the test side by side

@@ -5,9 +5,8 @@
 -- has.
 use Rattle.std.specs.Prelude.{ℕ, Bool, true, List, length, Option, Some, None, codes, nat_lt}
 use Rattle.std.specs.Option.{option_map_or}
-use Rattle.naga_ir.specs.declared.expression.Expression.{Expression}
+use Rattle.module_semantics.specs.IR.{Expression, Module}
 use Rattle.naga_ir.specs.declared.expression.Expression.TheVariants as expression
-use Rattle.naga_ir.specs.declared.module.Module.{Module}
 use Rattle.module_semantics.specs.declared.named.ListName.{ListName}
 use Rattle.module_semantics.specs.declared.named.ListName.TheVariants as list
 

@@ -7,18 +7,11 @@ use Rattle.std.specs.Prelude.{ℕ, Bool, true, ◌&&◌, ◌==◌, List, Option,
 use Rattle.std.specs.Int.NonZero.{non_zero_u32_get}
 use Rattle.std.specs.List.{list_all}
 use Rattle.std.specs.Option.{option_map_or}
-use Rattle.naga_ir.specs.declared.binding.Binding.{Binding}
+use Rattle.module_semantics.specs.IR.{ArraySize, Binding, EntryPoint, Function, ResourceBinding, StructMember}
+use Rattle.module_semantics.specs.IR.{SwitchValue, SwizzleComponent, TypeInner}
 use Rattle.naga_ir.specs.declared.binding.Binding.TheVariants as binding
-use Rattle.naga_ir.specs.declared.binding.ResourceBinding.{ResourceBinding}
-use Rattle.naga_ir.specs.declared.expression.SwizzleComponent.{SwizzleComponent}
-use Rattle.naga_ir.specs.declared.module.EntryPoint.{EntryPoint}
-use Rattle.naga_ir.specs.declared.module.Function.{Function}
-use Rattle.naga_ir.specs.declared.statement.SwitchValue.{SwitchValue}
 use Rattle.naga_ir.specs.declared.statement.SwitchValue.TheVariants as switch_value
-use Rattle.naga_ir.specs.declared.types.ArraySize.{ArraySize}
 use Rattle.naga_ir.specs.declared.types.ArraySize.TheVariants as size
-use Rattle.naga_ir.specs.declared.types.StructMember.{StructMember}
-use Rattle.naga_ir.specs.declared.types.TypeInner.{TypeInner}
 use Rattle.naga_ir.specs.declared.types.TypeInner.TheVariants as inner
 use Rattle.module_semantics.specs.Literals.{is_signed_within}
 

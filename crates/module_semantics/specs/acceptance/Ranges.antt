@@ -14,29 +14,13 @@ use Rattle.std.specs.Prelude.{nat_lt, nat_le, slice_get}
 use Rattle.std.specs.List.{list_all, enumerate_from}
 use Rattle.std.specs.Option.{option_map_or, option_map}
 use Rattle.indexmap.specs.IndexMap.{keys, values}
-use Rattle.naga_ir.specs.Operands.{expression_operands, simple_operands, simple_result}
-use Rattle.naga_ir.specs.StatementTree.{SimpleStatement, emit}
-use Rattle.naga_ir.specs.StatementTree.{call}
-use Rattle.naga_ir.specs.StatementTree.{StatementTree, simple, block, branch}
-use Rattle.naga_ir.specs.StatementTree.{switch, loop, BlockTree, no_statements, statement}
-use Rattle.naga_ir.specs.StatementTree.{CaseTrees, no_cases, case}
-use Rattle.naga_ir.specs.declared.expression.Expression.{Expression}
+use Rattle.module_semantics.specs.IR.{BlockTree, CaseTrees, Constant, EntryPoint, Expression, Function, GlobalVariable}
+use Rattle.module_semantics.specs.IR.{Handle, LocalVariable, Module, ModuleInfo, Override, SimpleStatement}
+use Rattle.module_semantics.specs.IR.{SpecialTypes, StatementTree, StructMember, TypeInner, TypeResolution, Type_}
+use Rattle.module_semantics.specs.IR.{Value, block, branch, call, case, emit, expression_operands, loop, no_cases}
+use Rattle.module_semantics.specs.IR.{no_statements, simple, simple_operands, simple_result, statement, switch}
 use Rattle.naga_ir.specs.declared.expression.Expression.TheVariants as expression
-use Rattle.naga_ir.specs.declared.module.Constant.{Constant}
-use Rattle.naga_ir.specs.declared.module.EntryPoint.{EntryPoint}
-use Rattle.naga_ir.specs.declared.module.Function.{Function}
-use Rattle.naga_ir.specs.declared.module.GlobalVariable.{GlobalVariable}
-use Rattle.naga_ir.specs.declared.module.LocalVariable.{LocalVariable}
-use Rattle.naga_ir.specs.declared.module.Module.{Module}
-use Rattle.naga_ir.specs.declared.module.Override.{Override}
-use Rattle.naga_ir.specs.declared.module.SpecialTypes.{SpecialTypes}
-use Rattle.naga_ir.specs.declared.types.StructMember.{StructMember}
-use Rattle.naga_ir.specs.declared.types.Type_.{Type_}
-use Rattle.naga_ir.specs.declared.types.TypeInner.{TypeInner}
 use Rattle.naga_ir.specs.declared.types.TypeInner.TheVariants as inner
-use Rattle.naga_info.specs.declared.info.ModuleInfo.{ModuleInfo}
-use Rattle.naga_info.specs.declared.info.TypeResolution.{TypeResolution}
-use Rattle.naga_info.specs.declared.info.TypeResolution.TheVariants.{Handle, Value}
 use Rattle.naga_spelling.specs.Spelling.{length_within}
 use Rattle.module_semantics.specs.acceptance.InfoSizes.{all_known, resolution_is_fit, sizes_fit}
 use Rattle.module_semantics.specs.acceptance.InfoSizes.{type_is_fit}

@@ -7,13 +7,8 @@
 -- point, es are expressions that stand together, known are their types by handle, and info is what
 -- is known of a function's expressions, or of the module.
 use Rattle.std.specs.Prelude.{Bool, ◌&&◌, List, map, Option, Some, None}
-use Rattle.naga_ir.specs.declared.expression.Expression.{Expression}
-use Rattle.naga_ir.specs.declared.module.EntryPoint.{EntryPoint}
-use Rattle.naga_ir.specs.declared.module.Function.{Function}
-use Rattle.naga_ir.specs.declared.module.Module.{Module}
-use Rattle.naga_info.specs.declared.info.ExpressionInfo.{ExpressionInfo}
-use Rattle.naga_info.specs.declared.info.ModuleInfo.{ModuleInfo}
-use Rattle.naga_info.specs.declared.info.TypeResolution.{TypeResolution}
+use Rattle.module_semantics.specs.IR.{EntryPoint, Expression, ExpressionInfo, Function, Module, ModuleInfo}
+use Rattle.module_semantics.specs.IR.{TypeResolution}
 use Rattle.module_semantics.specs.acceptance.ExpressionTypes.{have_their_types}
 use Rattle.module_semantics.specs.acceptance.InfoSizes.{all_paired}
 use Rattle.module_semantics.specs.acceptance.Initialisers.{initialisers_fit, locals_are_sound}

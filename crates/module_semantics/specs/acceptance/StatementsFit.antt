@@ -13,30 +13,16 @@ use Rattle.std.specs.Prelude.{ℕ, Bool, true, false, ◌&&◌, ◌||◌, ◌==�
 use Rattle.std.specs.Prelude.{Option, Some, None, slice_get}
 use Rattle.std.specs.Option.{option_map_or, is_some}
 use Rattle.std.specs.Ordering.{int_eq}
-use Rattle.naga_ir.specs.StatementTree.{SimpleStatement, break, continue, return}
-use Rattle.naga_ir.specs.StatementTree.{store, atomic}
-use Rattle.naga_ir.specs.StatementTree.{work_group_uniform_load, call}
-use Rattle.naga_ir.specs.StatementTree.{subgroup_ballot, subgroup_gather}
-use Rattle.naga_ir.specs.StatementTree.{subgroup_collective_operation, cooperative_store}
-use Rattle.naga_ir.specs.StatementTree.{StatementTree, simple, block, branch}
-use Rattle.naga_ir.specs.StatementTree.{switch, loop, BlockTree, no_statements, statement}
-use Rattle.naga_ir.specs.StatementTree.{CaseTrees, no_cases, case}
-use Rattle.naga_ir.specs.declared.expression.Expression.{Expression}
+use Rattle.module_semantics.specs.IR.{BlockTree, CaseTrees, Expression, Function, FunctionArgument, FunctionResult}
+use Rattle.module_semantics.specs.IR.{Handle, Module, Scalar, ScalarKind, SimpleStatement, StatementTree, SwitchValue}
+use Rattle.module_semantics.specs.IR.{TypeInner, TypeResolution, Type_, atomic, block, branch, break, call, case}
+use Rattle.module_semantics.specs.IR.{continue, cooperative_store, loop, no_cases, no_statements, return, simple}
+use Rattle.module_semantics.specs.IR.{statement, store, subgroup_ballot, subgroup_collective_operation}
+use Rattle.module_semantics.specs.IR.{subgroup_gather, switch, work_group_uniform_load}
 use Rattle.naga_ir.specs.declared.expression.Expression.TheVariants as expression
-use Rattle.naga_ir.specs.declared.module.Function.{Function}
-use Rattle.naga_ir.specs.declared.module.FunctionArgument.{FunctionArgument}
-use Rattle.naga_ir.specs.declared.module.FunctionResult.{FunctionResult}
-use Rattle.naga_ir.specs.declared.module.Module.{Module}
-use Rattle.naga_ir.specs.declared.statement.SwitchValue.{SwitchValue}
 use Rattle.naga_ir.specs.declared.statement.SwitchValue.TheVariants as switch_value
-use Rattle.naga_ir.specs.declared.types.Scalar.{Scalar}
-use Rattle.naga_ir.specs.declared.types.ScalarKind.{ScalarKind}
 use Rattle.naga_ir.specs.declared.types.ScalarKind.TheVariants as kind
-use Rattle.naga_ir.specs.declared.types.Type_.{Type_}
-use Rattle.naga_ir.specs.declared.types.TypeInner.{TypeInner}
 use Rattle.naga_ir.specs.declared.types.TypeInner.TheVariants as inner
-use Rattle.naga_info.specs.declared.info.TypeResolution.{TypeResolution}
-use Rattle.naga_info.specs.declared.info.TypeResolution.TheVariants.{Handle}
 use Rattle.module_semantics.specs.AlikeTypes.{are_alike}
 use Rattle.module_semantics.specs.acceptance.ExpressionTypes.{is_bool}
 use Rattle.module_semantics.specs.acceptance.OperandDemands.{operand_is, points_to_components}

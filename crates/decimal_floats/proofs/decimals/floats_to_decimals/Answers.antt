@@ -4,8 +4,7 @@ use Rattle.std.specs.Prelude.{Err, IsTrue, Ok, OnOk, Result}
 use Rattle.std.specs.Vec.{with_items}
 use Rattle.std.proofs.lemmas.List.{with_items_is}
 use Rattle.std.proofs.lemmas.Slice.Zip.{AllZip-long}
-use Rattle.naga_ir.specs.declared.module.EntryPoint.{EntryPoint}
-use Rattle.naga_ir.specs.declared.module.Module.{Module}
+use Rattle.module_semantics.specs.IR.{EntryPoint, Module}
 use Rattle.decimal_floats.specs.Decimals.{IsDecimalEntryPoint, IsDecimalModule, entry_point_is_decimal}
 use Rattle.decimal_floats.proofs.Acceptance.{decimal_is_accepted}
 use Rattle.decimal_floats.proofs.DecimalItems.{same_entry_points, same_functions}

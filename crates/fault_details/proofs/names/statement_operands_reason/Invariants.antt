@@ -1,6 +1,5 @@
 use Rattle.std.proofs.Common.{◌≡◌, []}
-use Rattle.naga_ir.specs.Operands.{own_operands}
-use Rattle.naga_ir.specs.StatementViews.{tree_of}
+use Rattle.module_semantics.specs.IR.{own_operands, tree_of}
 use Rattle.fault_details.specs.Demands.{OfEach, there, unmet}
 use Rattle.module_semantics.specs.declared.named.ListName.TheVariants.{Expressions}
 use Rattle.fault_details.proofs.names.statement_operands_reason.Given as goal

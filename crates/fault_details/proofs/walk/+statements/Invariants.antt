@@ -1,6 +1,5 @@
 use Rattle.std.proofs.Common.{◌≡◌, ◌+◌, ◌*◌, ◌≤◌, drop, true}
-use Rattle.naga_ir.specs.StatementTree.{statement_size, block_size, cases_size}
-use Rattle.naga_ir.specs.StatementViews.{tree_of, block_of, cases_of}
+use Rattle.module_semantics.specs.IR.{block_of, block_size, cases_of, cases_size, statement_size, tree_of}
 use Rattle.naga_acceptance.specs.TextOrder.{case_statements, statements_in}
 use Rattle.fault_details.specs.Shown.{passed}
 use Rattle.fault_details.proofs.walk.+statements.Given as goal

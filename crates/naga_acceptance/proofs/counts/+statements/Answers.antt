@@ -1,7 +1,6 @@
 use Rattle.std.proofs.Common.{◌+◌, drop, ap, sym, ◌∙◌, arith}
-use Rattle.naga_ir.specs.StatementViews.{tree_of, block_of, cases_of}
+use Rattle.module_semantics.specs.IR.{block_of, block_operands, cases_of, cases_operands, statement_operands, tree_of}
 use Rattle.naga_acceptance.specs.Counts.{with_uses}
-use Rattle.naga_ir.specs.Operands.{statement_operands, block_operands, cases_operands}
 use Rattle.naga_acceptance.proofs.Counting.{block_step, cases_step, block_size-left}
 use Rattle.naga_acceptance.proofs.Counting.{cases_size-left}
 use Rattle.naga_acceptance.proofs.counts.+statements.Goals as goal

@@ -1,8 +1,7 @@
 use Rattle.std.proofs.Common.{◌≡◌, ◌+◌, ◌*◌, ◌≤◌, drop}
-use Rattle.naga_ir.specs.StatementTree.{statement_size, block_size, cases_size}
-use Rattle.naga_ir.specs.StatementViews.{tree_of, block_of, cases_of}
+use Rattle.module_semantics.specs.IR.{block_of, block_operands, block_size, cases_of, cases_operands, cases_size}
+use Rattle.module_semantics.specs.IR.{statement_size, tree_of}
 use Rattle.naga_acceptance.specs.Counts.{with_uses}
-use Rattle.naga_ir.specs.Operands.{block_operands, cases_operands}
 use Rattle.naga_acceptance.proofs.counts.+statements.Given as goal
 
 abbrev pub decreases-add_statement_uses : goal.decreases-add_statement_uses

@@ -1,6 +1,5 @@
 use Rattle.std.proofs.Common.{◌≡◌}
-use Rattle.naga_ir.specs.Operands.{own_operands}
-use Rattle.naga_ir.specs.StatementViews.{tree_of}
+use Rattle.module_semantics.specs.IR.{own_operands, tree_of}
 use Rattle.naga_acceptance.specs.Counts.{with_uses}
 use Rattle.naga_acceptance.proofs.counts.add_own_uses.Given as goal
 

@@ -1,7 +1,6 @@
 use Rattle.std.proofs.Common.{◌≡◌, ◌∙◌, ap, sym, Option, Some, None}
 use Rattle.std.specs.Option.{option_copied, option_map, option_map_or}
-use Rattle.naga_ir.specs.declared.types.TypeInner.{TypeInner}
-use Rattle.naga_info.specs.declared.info.TypeResolution.TheVariants.{Value}
+use Rattle.module_semantics.specs.IR.{TypeInner, Value}
 use Rattle.module_semantics.specs.acceptance.AgreeingOperators.{conversion_key, unsupported_key}
 use Rattle.module_semantics.specs.acceptance.AgreeingOperators.{target_key}
 use Rattle.module_semantics.specs.Conversions.{conversion_target}

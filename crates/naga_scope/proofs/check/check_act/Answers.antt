@@ -1,7 +1,6 @@
 use Rattle.std.proofs.Common.{None, [], ap, ◌∙◌}
 use Rattle.std.specs.Result.{result_and}
-use Rattle.naga_ir.specs.Operands.{own_result}
-use Rattle.naga_ir.specs.StatementViews.{tree_of}
+use Rattle.module_semantics.specs.IR.{own_result, tree_of}
 use Rattle.module_semantics.specs.Namings.{inner_names}
 use Rattle.shader_runs.specs.Scope.{after_result}
 use Rattle.naga_scope.specs.KnownFunctions.{handles_at}

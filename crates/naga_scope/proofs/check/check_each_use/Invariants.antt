@@ -1,6 +1,5 @@
 use Rattle.std.proofs.Common.{◌≡◌}
-use Rattle.naga_ir.specs.Operands.{own_operands}
-use Rattle.naga_ir.specs.StatementViews.{tree_of}
+use Rattle.module_semantics.specs.IR.{own_operands, tree_of}
 use Rattle.naga_scope.specs.KnownFunctions.{handles_at, shape_of}
 use Rattle.naga_scope.specs.ScopeChecks.{check_uses}
 use Rattle.naga_scope.proofs.check.check_each_use.Given as goal

@@ -1,6 +1,5 @@
 use Rattle.std.proofs.Common.{◌≡◌, ◌+◌, ◌*◌, ◌≤◌, drop}
-use Rattle.naga_ir.specs.StatementTree.{block_size, cases_size, statement_size}
-use Rattle.naga_ir.specs.StatementViews.{block_of, cases_of, tree_of}
+use Rattle.module_semantics.specs.IR.{block_of, block_size, cases_of, cases_size, statement_size, tree_of}
 use Rattle.naga_scope.specs.Continues.{any_continue, some_case_continues}
 use Rattle.naga_scope.proofs.continues.+continues.Given as goal
 

@@ -1,7 +1,6 @@
 use Rattle.std.proofs.Common.{◌≡◌, ◌+◌, ◌*◌, ◌≤◌, ◌++◌, drop}
-use Rattle.naga_ir.specs.StatementTree.{block_size, cases_size, statement_size}
-use Rattle.naga_ir.specs.StatementViews.{block_of, cases_of, tree_of}
-use Rattle.naga_ir.specs.InOrder.{case_trees, trees_in, trees_of}
+use Rattle.module_semantics.specs.IR.{block_of, block_size, case_trees, cases_of, cases_size, statement_size, tree_of}
+use Rattle.module_semantics.specs.IR.{trees_in, trees_of}
 use Rattle.naga_scope.proofs.in_order.+in_order.Given as goal
 
 abbrev pub decreases-add_block : goal.decreases-add_block

@@ -1,8 +1,7 @@
 use Rattle.std.proofs.Common.{◌≡◌, ◌<◌, ℕ, ◌∙◌, Bool, ap, arith, false, length, subst, sym}
 use Rattle.std.specs.Prelude.{slice_get}
 use Rattle.module_semantics.specs.AlikeTypes.{has_type_form}
-use Rattle.naga_info.specs.declared.info.TypeResolution.TheVariants.{Handle}
-use Rattle.naga_ir.specs.declared.module.Module.{Module}
+use Rattle.module_semantics.specs.IR.{Handle, Module}
 use Rattle.naga_tables.proofs.FilledTables.{no_type_form_beyond, formed_by}
 use Rattle.naga_tables.proofs.WrittenConstants.{CellsBelow, all_below, none_below, one_below}
 use Rattle.naga_tables.proofs.tables.mark_type_forms.Goals as goal

@@ -2,8 +2,7 @@ use Rattle.std.proofs.Common.{◌≡◌, ◌∙◌, ◌++◌, ℕ, ap, subst, sy
 use Rattle.module_semantics.proofs.FunctionNumbers.{one_type}
 use Rattle.module_semantics.specs.FunctionNumbers.{function_number}
 use Rattle.naga_back.specs.declared.flags.WriterFlags.{WriterFlags}
-use Rattle.naga_info.specs.declared.info.ModuleInfo.{ModuleInfo}
-use Rattle.naga_ir.specs.declared.module.Module.{Module}
+use Rattle.module_semantics.specs.IR.{Module, ModuleInfo}
 use Rattle.naga_scope.specs.Plans.{AreExpressionNames, Planned}
 use Rattle.naga_spelling.specs.Sink.{IsAfter}
 use Rattle.naga_wgsl_fns.specs.Functions.{names_of, text_of_function, text_under}

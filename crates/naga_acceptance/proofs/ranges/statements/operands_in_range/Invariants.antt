@@ -1,6 +1,5 @@
 use Rattle.std.proofs.Common.{◌≡◌}
-use Rattle.naga_ir.specs.Operands.{own_operands}
-use Rattle.naga_ir.specs.StatementViews.{tree_of}
+use Rattle.module_semantics.specs.IR.{own_operands, tree_of}
 use Rattle.module_semantics.specs.acceptance.Ranges.{all_below}
 use Rattle.naga_acceptance.proofs.ranges.statements.operands_in_range.Given as goal
 

@@ -5,14 +5,13 @@ use Rattle.std.specs.Prelude.{Err, Ok, OnErr, Result, sum_by}
 use Rattle.std.specs.declared.string.String.{String}
 use Rattle.module_semantics.specs.ExpressionLabels.{expression_labels}
 use Rattle.naga_form.proofs.Fits.{mapped_length}
-use Rattle.naga_ir.specs.StatementTree.{StatementTree}
+use Rattle.module_semantics.specs.IR.{StatementTree, trees_in, trees_of}
 use Rattle.naga_naming.proofs.Reset.{if_err}
 use Rattle.naga_naming.specs.Naming.{Names}
 use Rattle.naga_naming.specs.declared.error.NamerError.{NamerError}
 use Rattle.naga_scope.specs.Availabilities.{KeepsStart, handles_of}
 use Rattle.naga_scope.specs.Changes.{block_changes}
 use Rattle.naga_scope.specs.ExpressionNames.{HasBegunLabels, NamesLabels, RefusesLabels}
-use Rattle.naga_ir.specs.InOrder.{trees_in, trees_of}
 use Rattle.naga_scope.specs.InOrder.{own_changes, own_labels}
 use Rattle.naga_scope.specs.KnownFunctions.{shape_of}
 use Rattle.naga_scope.specs.Log.{HasRoom}

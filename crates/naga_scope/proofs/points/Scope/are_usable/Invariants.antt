@@ -1,8 +1,5 @@
 use Rattle.std.proofs.Common.{◌≡◌, ℕ, List}
-use Rattle.naga_ir.specs.Operands.{expression_operands}
-use Rattle.naga_ir.specs.declared.module.Module.{Module}
-use Rattle.naga_info.specs.declared.info.ModuleInfo.{ModuleInfo}
-use Rattle.naga_info.specs.declared.info.ExpressionInfo.{ExpressionInfo}
+use Rattle.module_semantics.specs.IR.{ExpressionInfo, Module, ModuleInfo, expression_operands}
 use Rattle.shader_runs.specs.Scope.{usable_all}
 use Rattle.module_semantics.specs.FunctionShapes.{function_shape}
 use Rattle.naga_scope.specs.Availabilities.{handles_of}

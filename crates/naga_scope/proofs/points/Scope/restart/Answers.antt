@@ -2,8 +2,7 @@ use Rattle.std.proofs.Common.{◌≡◌, ◌<◌, ◌&&◌, ◌∙◌, Some, ap,
 use Rattle.std.proofs.Common.{refl, sym, []}
 use Rattle.std.specs.Option.{option_map_or}
 use Rattle.std.proofs.lemmas.List.{length-set}
-use Rattle.naga_ir.specs.Kinds.{kind_of}
-use Rattle.naga_ir.specs.Operands.{expression_operands}
+use Rattle.module_semantics.specs.IR.{expression_operands, kind_of}
 use Rattle.naga_ir.specs.declared.kind.ExpressionKind.TheVariants.{Result}
 use Rattle.shader_runs.specs.Scope.{all_constant}
 use Rattle.naga_scope.specs.Availabilities.{TextPoint, is_constant_by, first_availability}

@@ -1,8 +1,5 @@
 use Rattle.std.proofs.Common.{◌≡◌, ℕ, List, length}
-use Rattle.naga_ir.specs.declared.module.Function.{Function}
-use Rattle.naga_ir.specs.declared.module.Module.{Module}
-use Rattle.naga_info.specs.declared.info.ModuleInfo.{ModuleInfo}
-use Rattle.naga_info.specs.declared.info.ExpressionInfo.{ExpressionInfo}
+use Rattle.module_semantics.specs.IR.{ExpressionInfo, Function, Module, ModuleInfo}
 use Rattle.naga_scope.proofs.Constants.{IsStart}
 use Rattle.naga_scope.specs.declared.points.Availability.{Availability}
 use Rattle.naga_scope.proofs.points.Scope.restart.Given as goal

@@ -1,7 +1,6 @@
 use Rattle.std.proofs.Common.{◌+◌, ◌∙◌, ap, arith, drop, length, refl, subst, suc, sym}
 use Rattle.naga_ir.proofs.Listed.{first_of}
-use Rattle.naga_ir.specs.InOrder.{trees_in, trees_inside}
-use Rattle.naga_ir.specs.StatementViews.{block_of, tree_of}
+use Rattle.module_semantics.specs.IR.{block_of, tree_of, trees_in, trees_inside}
 use Rattle.naga_scope.specs.Changes.{block_changes}
 use Rattle.naga_scope.specs.FirstLack.{inside_lack, own_lack, unless_lack}
 use Rattle.naga_scope.specs.KnownFunctions.{context_of, expressions_of, handles_at, naming_of, shape_of, statements_in}

@@ -1,7 +1,6 @@
 use Rattle.std.proofs.Common.{◌≡◌, ◌+◌, ◌*◌, ◌≤◌, drop, length}
-use Rattle.naga_ir.specs.InOrder.{case_trees, trees_in}
-use Rattle.naga_ir.specs.StatementTree.{block_size, cases_size, statement_size}
-use Rattle.naga_ir.specs.StatementViews.{block_of, cases_of, tree_of}
+use Rattle.module_semantics.specs.IR.{block_of, block_size, case_trees, cases_of, cases_size, statement_size, tree_of}
+use Rattle.module_semantics.specs.IR.{trees_in}
 use Rattle.naga_scope.specs.Changes.{block_changes, cases_changes}
 use Rattle.naga_scope.specs.FirstLack.{block_lack, case_lack}
 use Rattle.naga_scope.specs.KnownFunctions.{IsPointOf, cases_in, expressions_of, handles_at}

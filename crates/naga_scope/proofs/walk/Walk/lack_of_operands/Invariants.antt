@@ -1,6 +1,5 @@
 use Rattle.std.proofs.Common.{◌≡◌}
-use Rattle.naga_ir.specs.Operands.{own_operands}
-use Rattle.naga_ir.specs.StatementViews.{tree_of}
+use Rattle.module_semantics.specs.IR.{own_operands, tree_of}
 use Rattle.naga_scope.specs.FirstLack.{lowest_in}
 use Rattle.naga_scope.specs.Lacks.{lower, lowest_of}
 use Rattle.naga_scope.specs.Walked.{walked}

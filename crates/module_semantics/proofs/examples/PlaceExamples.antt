@@ -5,18 +5,13 @@ use Rattle.std.proofs.Common.{◌≡◌, ℕ, pos, true, List, [], ◌∷◌, So
 use Rattle.std.proofs.Common.{Vec, Global}
 use Rattle.std.specs.Fmt.{digits}
 use Rattle.naga_ir.specs.declared.module.Function as ir_function
-use Rattle.naga_ir.specs.declared.module.FunctionArgument.{FunctionArgument}
-use Rattle.naga_ir.specs.declared.module.LocalVariable.{LocalVariable}
+use Rattle.module_semantics.specs.IR.{FunctionArgument, LocalVariable, ModuleInfo, Scalar, StructMember, Type_}
 use Rattle.naga_ir.specs.declared.module.Module as ir_module
 use Rattle.naga_ir.specs.declared.types.AddressSpace.TheVariants as space
 use Rattle.naga_ir.specs.declared.types.ArraySize.TheVariants as size
-use Rattle.naga_ir.specs.declared.types.Scalar.{Scalar}
 use Rattle.naga_ir.specs.declared.types.ScalarKind.TheVariants as kind
-use Rattle.naga_ir.specs.declared.types.StructMember.{StructMember}
 use Rattle.naga_ir.specs.declared.types.TypeInner.TheVariants as inner
-use Rattle.naga_ir.specs.declared.types.Type_.{Type_}
 use Rattle.naga_ir.specs.declared.types.VectorSize.TheVariants as vector
-use Rattle.naga_info.specs.declared.info.ModuleInfo.{ModuleInfo}
 use Rattle.naga_spelling.specs.Spelling.{type_segments}
 use Rattle.module_semantics.specs.AlikeTypes.{handle_key}
 use Rattle.module_semantics.specs.FunctionShapes.{function_shape}
@@ -25,18 +20,7 @@ use Rattle.module_semantics.specs.PlaceParts.{place_parts, pointee_parts, member
 use Rattle.module_semantics.specs.Types.{local_pointer}
 use Rattle.shader_runs.specs.Value.{Parts, NoParts, Elements, Components, Members, Place, AtOrigin}
 use Rattle.shader_runs.specs.Value.{LocalOrigin, Part, At, Pointer, has_types, ElementAt, step_to}
-use Rattle.module_semantics.proofs.ModuleShapeExamples.{one}
-
--- a vector of no items
-abbrev pub none_of : {X : Type 0} → Vec X Global → Vec X Global
-none_of v =
-    record v {
-      len = 0;
-      cap = 0;
-      items = [];
-      ok = (refl, omega arith);
-      small = omega arith;
-    }
+use Rattle.module_semantics.proofs.examples.Vectors.{none_of, one}
 
 -- and of two
 abbrev two_of : {X : Type 0} → Vec X Global → X → X → Vec X Global

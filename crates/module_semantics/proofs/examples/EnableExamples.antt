@@ -4,44 +4,31 @@
 use Rattle.std.proofs.Common.{◌≡◌, ℕ, Bool, true, false, List, [], ◌∷◌, map, Option, Some, None}
 use Rattle.std.proofs.Common.{codes, take, refl, arith, Vec, Global}
 use Rattle.std.specs.List.{filter}
-use Rattle.naga_ir.specs.declared.binding.Binding.{Binding}
+use Rattle.module_semantics.specs.IR.{AddressSpace, Binding, BlockTree, EntryPoint, Function, GlobalVariable, Module}
+use Rattle.module_semantics.specs.IR.{ModuleInfo, Scalar, ScalarKind, ShaderStage, StatementTree, StructMember}
+use Rattle.module_semantics.specs.IR.{TypeInner, TypeResolution, Type_, block, branch, case, control_barrier, loop}
+use Rattle.module_semantics.specs.IR.{no_cases, no_statements, return, simple, statement, subgroup_ballot}
+use Rattle.module_semantics.specs.IR.{subgroup_collective_operation, subgroup_gather, switch}
 use Rattle.naga_ir.specs.declared.binding.Binding.TheVariants.{BuiltIn, Location}
 use Rattle.naga_ir.specs.declared.binding.BuiltIn.TheVariants as builtin
 use Rattle.naga_ir.specs.declared.binding.Interpolation.TheVariants as interpolation
-use Rattle.naga_info.specs.declared.info.ModuleInfo.{ModuleInfo}
-use Rattle.naga_info.specs.declared.info.TypeResolution.{TypeResolution}
 use Rattle.naga_info.specs.declared.info.TypeResolution.TheVariants as resolution
-use Rattle.naga_ir.specs.StatementTree.{BlockTree, StatementTree, block, branch, case}
-use Rattle.naga_ir.specs.StatementTree.{control_barrier, loop, no_cases, no_statements, return}
-use Rattle.naga_ir.specs.StatementTree.{simple, statement, subgroup_ballot}
-use Rattle.naga_ir.specs.StatementTree.{subgroup_collective_operation, subgroup_gather, switch}
 use Rattle.naga_ir.specs.declared.expression.Expression as ir
 use Rattle.naga_ir.specs.declared.expression.Expression.TheVariants as expression
-use Rattle.naga_ir.specs.declared.module.EntryPoint.{EntryPoint}
-use Rattle.naga_ir.specs.declared.module.Function.{Function}
 use Rattle.naga_ir.specs.declared.operators.CollectiveOperation.TheVariants as collective
 use Rattle.naga_ir.specs.declared.operators.GatherMode.TheVariants as gather
 use Rattle.naga_ir.specs.declared.operators.SubgroupOperation.TheVariants as operation
 use Rattle.naga_ir.specs.declared.statement.SwitchValue.TheVariants as switch_value
-use Rattle.naga_ir.specs.declared.module.GlobalVariable.{GlobalVariable}
-use Rattle.naga_ir.specs.declared.module.Module.{Module}
-use Rattle.naga_ir.specs.declared.module.ShaderStage.{ShaderStage}
 use Rattle.naga_ir.specs.declared.module.ShaderStage.TheVariants as stage
-use Rattle.naga_ir.specs.declared.types.AddressSpace.{AddressSpace}
 use Rattle.naga_ir.specs.declared.types.AddressSpace.TheVariants as space
 use Rattle.naga_ir.specs.declared.types.ArraySize.TheVariants as size
 use Rattle.naga_ir.specs.declared.types.CooperativeRole.TheVariants as role
 use Rattle.naga_ir.specs.declared.types.CooperativeSize.TheVariants as cooperative
-use Rattle.naga_ir.specs.declared.types.Scalar.{Scalar}
-use Rattle.naga_ir.specs.declared.types.ScalarKind.{ScalarKind}
 use Rattle.naga_ir.specs.declared.types.ScalarKind.TheVariants as kind
-use Rattle.naga_ir.specs.declared.types.StructMember.{StructMember}
-use Rattle.naga_ir.specs.declared.types.Type_.{Type_}
-use Rattle.naga_ir.specs.declared.types.TypeInner.{TypeInner}
 use Rattle.naga_ir.specs.declared.types.TypeInner.TheVariants as inner
 use Rattle.naga_ir.specs.declared.types.VectorSize.TheVariants as vector
 use Rattle.wgsl_text.specs.Tables.{enable_words}
-use Rattle.module_semantics.proofs.NumberExamples.{one}
+use Rattle.module_semantics.proofs.examples.Vectors.{one}
 use Rattle.module_semantics.specs.Enables.{extensions, is_enabled}
 
 -- the extensions are those of the grammar, in its order

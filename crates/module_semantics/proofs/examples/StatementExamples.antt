@@ -3,25 +3,16 @@
 -- array<i32>; the expressions are a value of each of the first three, pointers to an i32, to the
 -- atomic, to the vector and to the array, and results.
 use Rattle.std.proofs.Common.{◌≡◌, ℕ, pos, true, false, List, [], ◌∷◌, Option, Some, None, refl}
-use Rattle.naga_ir.specs.StatementTree.{StatementTree, simple, block, branch, switch, loop}
-use Rattle.naga_ir.specs.StatementTree.{BlockTree, no_statements, statement, CaseTrees, no_cases}
-use Rattle.naga_ir.specs.StatementTree.{case, break, continue}
+use Rattle.module_semantics.specs.IR.{BlockTree, CaseTrees, Function, FunctionArgument, FunctionResult, Handle, Module}
+use Rattle.module_semantics.specs.IR.{Scalar, StatementTree, TypeInner, TypeResolution, Type_, Value, block, branch}
+use Rattle.module_semantics.specs.IR.{break, case, continue, loop, no_cases, no_statements, simple, statement, switch}
 use Rattle.naga_ir.specs.declared.expression.Expression.TheVariants as expression
-use Rattle.naga_ir.specs.declared.module.Function.{Function}
-use Rattle.naga_ir.specs.declared.module.FunctionArgument.{FunctionArgument}
-use Rattle.naga_ir.specs.declared.module.FunctionResult.{FunctionResult}
-use Rattle.naga_ir.specs.declared.module.Module.{Module}
 use Rattle.naga_ir.specs.declared.statement.SwitchValue.TheVariants as switch_value
 use Rattle.naga_ir.specs.declared.types.AddressSpace.TheVariants as space
 use Rattle.naga_ir.specs.declared.types.ArraySize.TheVariants as size
-use Rattle.naga_ir.specs.declared.types.Scalar.{Scalar}
 use Rattle.naga_ir.specs.declared.types.ScalarKind.TheVariants as kind
-use Rattle.naga_ir.specs.declared.types.Type_.{Type_}
-use Rattle.naga_ir.specs.declared.types.TypeInner.{TypeInner}
 use Rattle.naga_ir.specs.declared.types.TypeInner.TheVariants as inner
 use Rattle.naga_ir.specs.declared.types.VectorSize.TheVariants as vector
-use Rattle.naga_info.specs.declared.info.TypeResolution.{TypeResolution}
-use Rattle.naga_info.specs.declared.info.TypeResolution.TheVariants.{Handle, Value}
 use Rattle.module_semantics.specs.AlikeTypes.{handle_key}
 use Rattle.module_semantics.specs.acceptance.Initialisers.{initialiser_fits}
 use Rattle.module_semantics.specs.acceptance.OperandDemands.{operand_is, points_to_components}

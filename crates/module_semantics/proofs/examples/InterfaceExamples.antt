@@ -15,24 +15,20 @@ use Rattle.naga_ir.specs.declared.expression.Literal.TheVariants as literal
 use Rattle.naga_ir.specs.declared.module.Constant as ir_constant
 use Rattle.naga_ir.specs.declared.module.EntryPoint as ir_entry_point
 use Rattle.naga_ir.specs.declared.module.Function as ir_function
-use Rattle.naga_ir.specs.declared.module.FunctionArgument.{FunctionArgument}
+use Rattle.module_semantics.specs.IR.{CaseTrees, FunctionArgument, ModuleInfo, ShaderStage, Type_, break, case}
+use Rattle.module_semantics.specs.IR.{no_cases, no_statements, simple, statement, switch}
 use Rattle.naga_ir.specs.declared.module.GlobalVariable as ir_global
 use Rattle.naga_ir.specs.declared.module.Module as ir_module
 use Rattle.naga_ir.specs.declared.module.Override as ir_override
-use Rattle.naga_ir.specs.declared.module.ShaderStage.{ShaderStage}
 use Rattle.naga_ir.specs.declared.module.ShaderStage.TheVariants as stages
-use Rattle.naga_ir.specs.StatementTree.{CaseTrees, break, case, no_cases, no_statements, simple}
-use Rattle.naga_ir.specs.StatementTree.{statement, switch}
 use Rattle.naga_ir.specs.declared.statement.SwitchValue.TheVariants as selected_value
 use Rattle.naga_ir.specs.declared.types.AddressSpace.TheVariants as spaces
 use Rattle.naga_ir.specs.declared.types.ArraySize.TheVariants as size
 use Rattle.naga_ir.specs.declared.types.ScalarKind.TheVariants as kind
 use Rattle.naga_ir.specs.declared.types.StructMember as ir_member
-use Rattle.naga_ir.specs.declared.types.Type_.{Type_}
 use Rattle.naga_ir.specs.declared.types.TypeInner.TheVariants as inner
 use Rattle.naga_ir.specs.declared.types.VectorSize.TheVariants as vector
 use Rattle.naga_back.specs.declared.flags.WriterFlags.{WriterFlags}
-use Rattle.naga_info.specs.declared.info.ModuleInfo.{ModuleInfo}
 use Rattle.naga_layout.specs.Types.{layout_at}
 use Rattle.naga_naming.specs.Keys.{NameMap}
 use Rattle.naga_naming.specs.declared.key.NameKey.TheVariants as key
@@ -57,12 +53,7 @@ use Rattle.text_semantics.specs.Interface.{Interface, GlobalInterface, MemberInt
 use Rattle.text_semantics.specs.Interface.{OverrideInterface, interface_read}
 use Rattle.text_semantics.specs.Switches.{CaseValueInterface, Signed}
 use Rattle.module_semantics.specs.Interface.{module_interface, stage_of}
-use Rattle.module_semantics.proofs.ModuleShapeExamples.{one}
-use Rattle.module_semantics.proofs.StageBindingExamples.{differ}
-
--- a vector of two items
-abbrev pub two : {X : Type 0} → Vec X Global → X → X → Vec X Global
-two v x y = record v { len = 2; cap = 2; items = x ∷ y ∷ []; ok = (refl, omega arith); small = omega arith }
+use Rattle.module_semantics.proofs.examples.Vectors.{differ, one, two}
 
 -- an integer of 32 bits as a value
 abbrev number : ℕ → Value

@@ -7,12 +7,9 @@ use Rattle.std.specs.Option.{is_none, option_and_then, option_map, option_map_or
 use Rattle.indexmap.specs.IndexMap.{with_entries}
 use Rattle.naga_ir.specs.declared.binding.Binding.TheVariants as binding
 use Rattle.naga_ir.specs.declared.binding.BuiltIn.TheVariants as builtin
-use Rattle.naga_ir.specs.declared.module.Module.{Module}
+use Rattle.module_semantics.specs.IR.{Module, StructMember, TypeInner, Type_}
 use Rattle.naga_ir.specs.declared.types.ArraySize.TheVariants as size
 use Rattle.naga_ir.specs.declared.types.ScalarKind.TheVariants as kind
-use Rattle.naga_ir.specs.declared.types.StructMember.{StructMember}
-use Rattle.naga_ir.specs.declared.types.Type_.{Type_}
-use Rattle.naga_ir.specs.declared.types.TypeInner.{TypeInner}
 use Rattle.naga_ir.specs.declared.types.TypeInner.TheVariants as inner
 use Rattle.naga_ir.specs.declared.types.VectorSize.TheVariants as vector
 use Rattle.naga_layout.specs.Bindings.{has_bindings}
@@ -29,8 +26,7 @@ use Rattle.text_semantics.specs.Layout.{offsets_read, size_of_struct_read, struc
 use Rattle.module_semantics.specs.Layouts.{concerned_members, concerned_of, layout_in, module_rule}
 use Rattle.module_semantics.specs.Layouts.{span_at, written_size}
 use Rattle.module_semantics.specs.Undeclared.{is_declared}
-use Rattle.module_semantics.proofs.InterfaceExamples.{two}
-use Rattle.module_semantics.proofs.ModuleShapeExamples.{one}
+use Rattle.module_semantics.proofs.examples.Vectors.{one, two}
 
 module _ (other : Module) (members : Vec StructMember Global) where
   abbrev at : (ty offset : ℕ) → StructMember

@@ -15,10 +15,8 @@ use Rattle.naga_ir.specs.declared.expression.Literal.TheVariants as literal
 use Rattle.naga_ir.specs.declared.operators.MathFunction.TheVariants as math
 use Rattle.naga_ir.specs.declared.types.AddressSpace.TheVariants as space
 use Rattle.naga_ir.specs.declared.types.ScalarKind.TheVariants as kind
-use Rattle.naga_ir.specs.declared.types.StructMember.{StructMember}
+use Rattle.module_semantics.specs.IR.{Handle, StructMember, Type_}
 use Rattle.naga_ir.specs.declared.types.TypeInner.TheVariants as inner
-use Rattle.naga_ir.specs.declared.types.Type_.{Type_}
-use Rattle.naga_info.specs.declared.info.TypeResolution.TheVariants.{Handle}
 use Rattle.naga_spelling.specs.Contexts.{writer_context}
 use Rattle.naga_spelling.specs.Segments.{known_text}
 use Rattle.naga_spelling.specs.Spelling.{resolution_segments, type_segments}
@@ -39,8 +37,7 @@ use Rattle.wgsl_text.specs.Statements.{Assign, CallStatement, ReturnValue, State
 use Rattle.wgsl_text.specs.WorkedTrees as worked
 use Rattle.module_semantics.specs.ExpressionShapes.{ModuleDeclarations, shape_of}
 use Rattle.module_semantics.specs.TypeIdentity.{identity, identity_code}
-use Rattle.module_semantics.proofs.InterfaceExamples.{two}
-use Rattle.module_semantics.proofs.StageBindingExamples.{differ}
+use Rattle.module_semantics.proofs.examples.Vectors.{differ, two}
 
 -- ---- texts
 -- two structs with members of like types, and a function over these expressions

@@ -36,7 +36,7 @@ use Rattle.module_semantics.specs.OperatorTable.{run_word}
 use Rattle.module_semantics.specs.Types.{called_spelling, spelled_resolution, type_names}
 use Rattle.module_semantics.specs.Undeclared.{declared_struct_names}
 use Rattle.module_semantics.specs.Resolution.{words_of_members}
-use Rattle.module_semantics.proofs.InterfaceExamples.{two}
+use Rattle.module_semantics.proofs.examples.Vectors.{two}
 
 -- ---- a text
 abbrev i32 : TypeSpecifier

@@ -6,24 +6,15 @@ use Rattle.std.proofs.Common.{◌≡◌, ℕ, pos, true, false, List, [], ◌∷
 use Rattle.std.proofs.Common.{map, codes, Vec, Global, String}
 use Rattle.naga_ir.specs.declared.expression.Expression.TheVariants as expression
 use Rattle.naga_ir.specs.declared.expression.Literal.TheVariants as literal
-use Rattle.naga_ir.specs.declared.module.Constant.{Constant}
-use Rattle.naga_ir.specs.declared.module.EntryPoint.{EntryPoint}
+use Rattle.module_semantics.specs.IR.{AddressSpace, Constant, EntryPoint, ExpressionInfo, GlobalVariable, Handle}
+use Rattle.module_semantics.specs.IR.{ModuleInfo, Override, Scalar, TypeResolution, Type_, Value}
 use Rattle.naga_ir.specs.declared.module.Function as ir_function
-use Rattle.naga_ir.specs.declared.module.GlobalVariable.{GlobalVariable}
 use Rattle.naga_ir.specs.declared.module.Module as ir_module
-use Rattle.naga_ir.specs.declared.module.Override.{Override}
-use Rattle.naga_ir.specs.declared.types.AddressSpace.{AddressSpace}
 use Rattle.naga_ir.specs.declared.types.AddressSpace.TheVariants as space
 use Rattle.naga_ir.specs.declared.types.ArraySize.TheVariants as size
-use Rattle.naga_ir.specs.declared.types.Scalar.{Scalar}
 use Rattle.naga_ir.specs.declared.types.ScalarKind.TheVariants as kind
 use Rattle.naga_ir.specs.declared.types.TypeInner.TheVariants as inner
-use Rattle.naga_ir.specs.declared.types.Type_.{Type_}
 use Rattle.naga_ir.specs.declared.types.VectorSize.TheVariants as vector
-use Rattle.naga_info.specs.declared.info.ExpressionInfo.{ExpressionInfo}
-use Rattle.naga_info.specs.declared.info.ModuleInfo.{ModuleInfo}
-use Rattle.naga_info.specs.declared.info.TypeResolution.{TypeResolution}
-use Rattle.naga_info.specs.declared.info.TypeResolution.TheVariants.{Handle, Value}
 use Rattle.naga_naming.specs.declared.key.NameKey.TheVariants as key
 use Rattle.naga_spelling.specs.Spelling.{type_segments}
 use Rattle.module_semantics.specs.ExpressionContexts as contexts
@@ -34,17 +25,7 @@ use Rattle.module_semantics.specs.Namings.{numbered_key}
 use Rattle.shader_runs.specs.Program as shapes
 use Rattle.shader_runs.specs.Program.{Fixed, NamedConstant, Held, AtPlace, function_numbered}
 use Rattle.shader_runs.specs.Value.{IntegerType, PointerType, OtherType, Whole}
-
--- a vector of one item
-abbrev pub one : {X : Type 0} → Vec X Global → X → Vec X Global
-one v x =
-    record v {
-      len = 1;
-      cap = 1;
-      items = x ∷ [];
-      ok = (refl, omega arith);
-      small = omega arith;
-    }
+use Rattle.module_semantics.proofs.examples.Vectors.{one}
 
 module _ (other : ir_module.Module) (info : ModuleInfo) (label : String Global)
     (variable : GlobalVariable) (o : Override) (f : ir_function.Function) (p : EntryPoint)

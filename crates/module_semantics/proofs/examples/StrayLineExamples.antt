@@ -6,10 +6,9 @@ use Rattle.std.proofs.Common.{◌≡◌, Bool, true, false, List, [], ◌∷◌,
 use Rattle.std.proofs.Common.{◌∙◌, codes}
 use Rattle.std.proofs.lemmas.Bool.{false≢true}
 use Rattle.std.specs.Prelude.{◌||◌, cond}
-use Rattle.naga_ir.specs.StatementTree.{no_statements}
+use Rattle.module_semantics.specs.IR.{ModuleInfo, no_statements}
 use Rattle.naga_ir.specs.declared.module.Function as ir_function
 use Rattle.naga_ir.specs.declared.module.Module as ir_module
-use Rattle.naga_info.specs.declared.info.ModuleInfo.{ModuleInfo}
 use Rattle.shader_runs.specs.Value.{Bytes, same_bytes, Truth, Value}
 use Rattle.shader_runs.specs.World.{Entry, Event, Meaning, Settings, World}
 use Rattle.shader_runs.specs.Outcome.{answer, Gives, Halts, ReachedOrHalted, Stuck}
@@ -33,8 +32,7 @@ use Rattle.module_semantics.specs.Faithful.{RunsAs}
 use Rattle.module_semantics.specs.FunctionShapes.{function_shape}
 use Rattle.module_semantics.specs.ModuleShapes.{module_shape}
 use Rattle.module_semantics.specs.Names.{function_name, module_names}
-use Rattle.module_semantics.proofs.ModuleShapeExamples.{one}
-use Rattle.module_semantics.proofs.PlaceExamples.{none_of}
+use Rattle.module_semantics.proofs.examples.Vectors.{none_of, one}
 
 -- a world that answers all alike, and a meaning that gives all alike
 abbrev world : World

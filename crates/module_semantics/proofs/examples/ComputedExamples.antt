@@ -5,15 +5,12 @@ use Rattle.std.proofs.Common.{◌≡◌, pos, true, List, [], ◌∷◌, Some, N
 use Rattle.std.proofs.Common.{String, Global}
 use Rattle.naga_ir.specs.declared.expression.Expression.TheVariants as expression
 use Rattle.naga_ir.specs.declared.expression.Literal.TheVariants as literal
-use Rattle.naga_ir.specs.declared.module.Module.{Module}
+use Rattle.module_semantics.specs.IR.{Handle, Module, ModuleInfo, TypeResolution}
 use Rattle.naga_ir.specs.declared.operators.BinaryOperator.TheVariants as binary
 use Rattle.naga_ir.specs.declared.operators.UnaryOperator.TheVariants as unary
 use Rattle.naga_ir.specs.declared.types.ScalarKind.TheVariants as kind
 use Rattle.naga_ir.specs.declared.types.TypeInner.TheVariants as inner
 use Rattle.naga_ir.specs.declared.types.VectorSize.TheVariants as vector
-use Rattle.naga_info.specs.declared.info.ModuleInfo.{ModuleInfo}
-use Rattle.naga_info.specs.declared.info.TypeResolution.{TypeResolution}
-use Rattle.naga_info.specs.declared.info.TypeResolution.TheVariants.{Handle}
 use Rattle.naga_spelling.specs.Spelling.{type_segments}
 use Rattle.module_semantics.specs.ExpressionContexts.{declared}
 use Rattle.module_semantics.specs.ExpressionShapes.{shape_of}

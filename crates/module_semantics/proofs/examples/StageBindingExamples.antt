@@ -2,12 +2,10 @@
 -- of a module that they tell, and attributes that tell another.
 use Rattle.std.proofs.Common.{◌≡◌, ◌≢◌, ℕ, Bool, true, false, List, [], ◌∷◌, ◌==◌, Option, Some}
 use Rattle.std.proofs.Common.{None, refl, ap, sym, ◌∙◌}
-use Rattle.naga_ir.specs.declared.binding.Binding.{Binding}
+use Rattle.module_semantics.specs.IR.{Binding, Interpolation, Sampling}
 use Rattle.naga_ir.specs.declared.binding.Binding.TheVariants as binding
 use Rattle.naga_ir.specs.declared.binding.BuiltIn.TheVariants as builtin
-use Rattle.naga_ir.specs.declared.binding.Interpolation.{Interpolation}
 use Rattle.naga_ir.specs.declared.binding.Interpolation.TheVariants as interpolation
-use Rattle.naga_ir.specs.declared.binding.Sampling.{Sampling}
 use Rattle.naga_ir.specs.declared.binding.Sampling.TheVariants as sampling
 use Rattle.std.specs.Option.{is_none, option_map_or}
 use Rattle.std.specs.Prelude.{codes}
@@ -18,12 +16,7 @@ use Rattle.wgsl_text.specs.WorkedTrees.{interpolated_attribute, worded_attribute
 use Rattle.text_semantics.specs.Attributes.{AtLocation, BuiltinValue, LocationBinding, WithoutBinding}
 use Rattle.text_semantics.specs.Attributes.{StageBinding, stage_binding_read}
 use Rattle.module_semantics.specs.StageBindings.{stage_binding}
-
--- what a test tells apart is not the same
-pub differ : {X : Type 0} (test : X → Bool) (x y : X) → test x ≡ true → test y ≡ false → x ≢ y
-differ test x y passes fails e =
-    let clash : true ≡ false = sym passes ∙ ap test e ∙ fails in
-    cc
+use Rattle.module_semantics.proofs.examples.Vectors.{differ}
 
 -- the attributes say what the binding says
 abbrev Tell : List Attribute → Option Binding → Type 0

@@ -7,8 +7,8 @@ use Rattle.std.proofs.Common.{◌≡◌, ℕ, pos, true, false, List, [], ◌∷
 use Rattle.std.proofs.Common.{map, codes, Vec, Global}
 use Rattle.std.specs.Prelude.{slice_get}
 use Rattle.std.specs.Option.{option_map, option_map_or}
-use Rattle.naga_ir.specs.StatementTree.{atomic, store, control_barrier, image_atomic}
-use Rattle.naga_ir.specs.StatementTree.{subgroup_gather, call}
+use Rattle.module_semantics.specs.IR.{Handle, StructMember, Type_, atomic, call, control_barrier, image_atomic, store}
+use Rattle.module_semantics.specs.IR.{subgroup_gather}
 use Rattle.naga_ir.specs.declared.expression.Expression as ir
 use Rattle.naga_ir.specs.declared.expression.Expression.TheVariants as expression
 use Rattle.naga_ir.specs.declared.expression.ImageQuery.TheVariants as query
@@ -24,10 +24,7 @@ use Rattle.naga_ir.specs.declared.types.CooperativeRole.TheVariants as role
 use Rattle.naga_ir.specs.declared.types.CooperativeSize.TheVariants as cooperative
 use Rattle.naga_ir.specs.declared.types.ScalarKind.TheVariants as kind
 use Rattle.naga_ir.specs.declared.types.TypeInner.TheVariants as inner
-use Rattle.naga_ir.specs.declared.types.StructMember.{StructMember}
-use Rattle.naga_ir.specs.declared.types.Type_.{Type_}
 use Rattle.naga_ir.specs.declared.types.VectorSize.TheVariants as vector
-use Rattle.naga_info.specs.declared.info.TypeResolution.TheVariants.{Handle}
 use Rattle.naga_spelling.specs.Contexts.{writer_context}
 use Rattle.naga_spelling.specs.Segments.{known_text}
 use Rattle.naga_spelling.specs.Spelling.{resolution_segments, type_segments}

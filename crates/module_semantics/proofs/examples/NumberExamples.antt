@@ -2,30 +2,22 @@
 -- first that its type has not, and a pattern of four letters beside one of three.
 use Rattle.std.proofs.Common.{◌≡◌, ℕ, ◌^◌, ◌-◌, pos, negsuc, Bool, true, false, List, [], ◌∷◌, Option}
 use Rattle.std.proofs.Common.{Some, None, refl, arith, length, Vec, Global}
-use Rattle.naga_ir.specs.StatementTree.{CaseTrees, no_cases, case, no_statements}
-use Rattle.naga_ir.specs.declared.binding.Binding.{Binding}
+use Rattle.module_semantics.specs.IR.{ArraySize, Binding, CaseTrees, EntryPoint, Function, GlobalVariable, Module}
+use Rattle.module_semantics.specs.IR.{Override, StructMember, SwitchValue, Value, case, no_cases, no_statements}
 use Rattle.naga_ir.specs.declared.binding.Binding.TheVariants as binding
 use Rattle.naga_ir.specs.declared.expression.Expression.TheVariants as expression
 use Rattle.naga_ir.specs.declared.expression.SwizzleComponent.TheVariants as component
-use Rattle.naga_ir.specs.declared.module.EntryPoint.{EntryPoint}
-use Rattle.naga_ir.specs.declared.module.Function.{Function}
-use Rattle.naga_ir.specs.declared.module.GlobalVariable.{GlobalVariable}
-use Rattle.naga_ir.specs.declared.module.Module.{Module}
-use Rattle.naga_ir.specs.declared.module.Override.{Override}
-use Rattle.naga_ir.specs.declared.statement.SwitchValue.{SwitchValue}
 use Rattle.naga_ir.specs.declared.statement.SwitchValue.TheVariants as switch_value
-use Rattle.naga_ir.specs.declared.types.ArraySize.{ArraySize}
 use Rattle.naga_ir.specs.declared.types.ArraySize.TheVariants as size
-use Rattle.naga_ir.specs.declared.types.StructMember.{StructMember}
 use Rattle.naga_ir.specs.declared.types.TypeInner.TheVariants as inner
 use Rattle.naga_ir.specs.declared.types.VectorSize.TheVariants as vector
-use Rattle.naga_info.specs.declared.info.TypeResolution.TheVariants.{Value}
 use Rattle.module_semantics.specs.acceptance.Numbers.{binding_fits_32_bits, member_fits_32_bits}
 use Rattle.module_semantics.specs.acceptance.Ranges.{cases_in_range, entry_point_in_range}
 use Rattle.module_semantics.specs.acceptance.Ranges.{function_in_range, global_in_range}
 use Rattle.module_semantics.specs.acceptance.Ranges.{names_in_range, signature_fits}
 use Rattle.module_semantics.specs.acceptance.Ranges.{override_in_range, resolution_in_range}
 use Rattle.module_semantics.specs.acceptance.Ranges.{types_in_range}
+use Rattle.module_semantics.proofs.examples.Vectors.{one}
 
 -- ---- expressions
 module _ (m : Module) where
@@ -143,17 +135,6 @@ module _ (variable : GlobalVariable) (o : Override) where
 
   identified-by_17_bits : override_in_range 1 0 (record o { ty = 0; init = None; id = Some (2 ^ 16) }) ≡ false
   identified-by_17_bits = refl
-
--- a vector of one item
-abbrev pub one : {X : Type 0} → Vec X Global → X → Vec X Global
-one v x =
-    record v {
-      len = 1;
-      cap = 1;
-      items = x ∷ [];
-      ok = (refl, omega arith);
-      small = omega arith;
-    }
 
 module _ (members : Vec StructMember Global) where
   span : resolution_in_range 0 1 (Value (inner.Struct (one members (member 0 0)) 16)) ≡ true
