@@ -381,15 +381,10 @@ module _ (p : Module) (c : Call) (n : Names) (d : Respond) (facts : Facts p c n 
         (joined_values (used_values c kept xs) (constant_values c.environment c.meaning es))
         (request_values p c n d facts s names kept r xs es i k m.0)
         (value_of (words c d) (Apply w forms) names t)
-        (λ vs e. ap (λ o. read_value c.world
-        (as_value (unless o t
-        (word_answer (words c d) w (evaluate_all (words c d) forms names t)))))
-        (free p c n d facts s names kept r w y.0.1.1)
-        ∙ ap (λ q. read_value c.world (as_value (word_answer (words c d) w q)))
-        (request_forms_give p c n d facts s names kept r (written_form (naming c n) s) xs es y.1
-        i (all_here p c n d facts s names kept r xs m.0) t ∙ ap (λ os. reach os t) e)
-        ∙ ap (λ q. read_value c.world (as_value q))
-        (request_responds p c n d facts.responds w y.0 vs t))
+        (λ vs e. rw (free p c n d facts s names kept r w y.0.1.1,
+        request_forms_give p c n d facts s names kept r (written_form (naming c n) s) xs es y.1
+        i (all_here p c n d facts s names kept r xs m.0) t, e,
+        request_responds p c n d facts.responds w y.0 vs t))
     emit_request none false w xs es y i k m next = next kept names t r (agree_refl s kept)
 
     emit_one_as : (e : Option Expression) → WordFits p (naming c n) e →

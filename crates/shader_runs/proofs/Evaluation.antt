@@ -200,8 +200,7 @@ pub index_value : (parts : PartTypes) (m : Meaning) (x y v : Value) → place_in
     p ≡ Gives (IsValue x) t → rest t ≡ Gives y t → index_into parts m p rest ≡ Gives (IsValue v) t
 index_value parts m x y v n e p rest t q r =
     let same = same_Some (m IndexWord (x ∷ y ∷ [])) v (sym (index_value_is parts m x y n) ∙ e) in
-    ap (λ p. index_into parts m p rest) q ∙ ap (λ o. unless o t (index_reached m x (rest t))) n
-    ∙ ap (index_reached m x) r ∙ ap (λ v. Gives (IsValue v) t) same
+    rw (q, n, r, same)
 
 pub part_picked_value : (parts : PartTypes) (w : World) (m : Meaning) (x : Selector) (b v : Value) → place_in b ≡ None →
     part_value parts m x b ≡ Some v → (p : ReachedOrHalted Denotation) (t : List Event) →
@@ -246,10 +245,7 @@ module _ (c : Call) (d : Respond) (names : Scope) where
           let rest = value_of (words c d) (value_form i) names in (
             place,
             sym e,
-            λ t. ap (λ r. index_into c.environment.parts c.meaning r rest) (place_form_gives c d names b (Some x) mb t
-                ∙ ap (λ o. reach (option_map IsPlace o) t) q)
-                ∙ ap (part_reached c.environment.parts p) (value_form_gives c d names i (Some y) mi t)
-                ∙ ap (λ o. reach (option_map IsPlace o) t) s,
+            λ t. rw (place_form_gives c d names b (Some x) mb t, q, value_form_gives c d names i (Some y) mi t, s),
           )
 
   index_means : (b i : Plain) (x y v : Value) → Means c d names b (Some x) →

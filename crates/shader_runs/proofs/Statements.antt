@@ -128,10 +128,7 @@ module _ (p : Module) (c : Call) (n : Names) (d : Respond) (facts : Facts p c n 
       let there = value_here p c n d facts s names kept r h u t ∙ ap (λ o. reach o t) v.1 in
       let typed : Returns c.environment.parts c.function (Some v.0) =
       subst (λ k. ResultTyped c.environment.parts (Some v.0) k) (sym w) v.2 in
-      subst (λ o. SameLine c n s kept false (or_stuck o t (λ v. Returned (Some v) t))
-      (return_line (words c d) (value_if (naming c n) s (Some h)) names t)) (sym v.1)
-      (subst (λ q. SameLine c n s kept false (Returned (Some v.0) t)
-      (with_value q (λ v t1. Returned (Some v) t1))) (sym there) (returned_alike typed))
+      rw (v.1, there) (returned_alike typed)
 
   -- a choice, where each branch is alike
   if_line : (s : Handles) (names : Scope) (kept : EmittedValues) (t : List Event) (h : ℕ)
