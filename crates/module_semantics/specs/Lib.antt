@@ -1,3 +1,4 @@
+pub mod IR
 pub mod LetCounts
 pub mod AlikeTypes
 pub mod FunctionLets
