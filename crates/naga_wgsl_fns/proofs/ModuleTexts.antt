@@ -1,5 +1,5 @@
 -- What is known of a module from what is known of the text of one of its functions.
--- Serves 6 contracts, `expression` among them.
+-- Serves 7 contracts, `expression` among them.
 use Rattle.std.proofs.Common.{◌≡◌, subst, sym}
 use Rattle.module_semantics.specs.Names.{HasNamesOf}
 use Rattle.naga_naming.specs.Keys.{names_in}

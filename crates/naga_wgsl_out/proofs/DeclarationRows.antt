@@ -1,5 +1,5 @@
 -- What stands in front of a module's functions, group by group.
--- Serves 10 contracts, `write_all` among them.
+-- Serves 11 contracts, `write_all` among them.
 use Rattle.std.proofs.Common.{◌≡◌, ◌∙◌, ◌++◌, append_assoc, ap, refl, sym}
 use Rattle.naga_ir.specs.declared.module.Module.{Module}
 use Rattle.naga_words.specs.Output.{joined_texts}

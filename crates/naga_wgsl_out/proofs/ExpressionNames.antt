@@ -1,5 +1,5 @@
 -- What a namer that goes on with the labels of a function knows of them.
--- Serves 9 contracts, `refused_in` among them.
+-- Serves 10 contracts, `refused_in` among them.
 use Rattle.std.proofs.Common.{◌≡◌, ◌+◌, ◌<◌, ◌∙◌, ◌++◌, ℕ, List, [], ◌∷◌, Some, None, Option}
 use Rattle.std.proofs.Common.{append-nil, append_assoc, ap, length, refl, Bool, slice_get, subst}
 use Rattle.std.proofs.Common.{sym, take}

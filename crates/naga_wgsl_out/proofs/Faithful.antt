@@ -1,5 +1,5 @@
 -- What was written is faithful to the module.
--- Serves 9 contracts, `write` among them.
+-- Serves 10 contracts, `write_finding` among them.
 use Rattle.std.proofs.Common.{◌≡◌, ◌<◌, ◌∙◌, ◌++◌, ℕ, Bool, List, [], Ok, Err, ap, append-nil, inl}
 use Rattle.std.proofs.Common.{inr, length, subst, sym, None, Option, Some, refl, slice_get}
 use Rattle.std.proofs.lemmas.Option.{slice_get_within}

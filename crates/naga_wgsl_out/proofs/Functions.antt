@@ -1,5 +1,5 @@
 -- The text of a module from those of its functions and entry points.
--- Serves 9 contracts, `unwritable_function` among them.
+-- Serves 10 contracts, `unwritable_function` among them.
 use Rattle.std.proofs.Common.{◌≡◌, ◌+◌, ◌-◌, ◌<◌, ◌≤◌, ◌∙◌, ◌++◌, ◌^◌, ℕ, zero, suc, List, [], ◌∷◌}
 use Rattle.std.proofs.Common.{Some, Bool, true, false, None, Option, nat_lt, append-nil}
 use Rattle.std.proofs.Common.{append_assoc, add-one, ap, arith, below_more, codes, drop, drop-cons}

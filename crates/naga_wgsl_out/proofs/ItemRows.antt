@@ -1,6 +1,6 @@
 -- The parts that the texts of declarations share, from what is written of them in turn; and what
 -- stands in front of a module's functions.
--- Serves 25 contracts, `write_first_value` among them.
+-- Serves 26 contracts, `write_first_value` among them.
 --
 -- Throughout, m is a module, and rest what stands after a type.
 use Rattle.std.proofs.Common.{◌≡◌, ◌++◌, ◌==◌, ℕ, List, [], ◌∷◌, append_assoc, ap, arith, codes}

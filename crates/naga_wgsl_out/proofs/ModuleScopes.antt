@@ -1,5 +1,5 @@
 -- The rules of scope in the functions of a module, one by one and in all.
--- Serves 11 contracts, `write` among them.
+-- Serves 12 contracts, `write_finding` among them.
 use Rattle.std.proofs.Common.{◌≡◌, ◌<◌, ◌^◌, ℕ, Bool, true, zero, suc, List, [], ◌∷◌, Some, arith}
 use Rattle.std.proofs.Common.{Option, inl, inr, length, nat_le, ◌∙◌, subst, sym}
 use Rattle.std.specs.Option.{is_none}

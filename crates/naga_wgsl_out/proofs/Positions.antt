@@ -1,5 +1,5 @@
 -- Where a construct stands for which a module is refused.
--- Serves 7 contracts, `refused_in` among them.
+-- Serves 8 contracts, `refused_in` among them.
 use Rattle.std.proofs.Common.{◌≡◌, ◌+◌, ◌<◌, ◌∙◌, ℕ, Bool, List, Some, None, Option, ap, arith}
 use Rattle.std.proofs.Common.{below_more, inl, inr, length, slice_get, subst, sym, refl}
 use Rattle.std.specs.Prelude.{Err, IfErr, IfOk, IsErrAnd, IsFalse, IsSomeAnd, IsTrue, MatchOption}

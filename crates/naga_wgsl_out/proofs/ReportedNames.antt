@@ -1,5 +1,5 @@
 -- Why the items of a module get no names is told by other texts than what is told of a function.
--- Serves 9 contracts, `write` among them.
+-- Serves 10 contracts, `write_finding` among them.
 use Rattle.std.proofs.Common.{◌≡◌, ◌∙◌, ◌<◌, ℕ, zero, suc, Bool, false, true, List, [], ◌∷◌, length}
 use Rattle.std.proofs.Common.{ap, arith, inl, inr, nat_eq, not, refl, slice_index_or, sym}
 use Rattle.std.proofs.lemmas.Bool.{and_parts, false≢true}

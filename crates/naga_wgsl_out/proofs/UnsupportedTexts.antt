@@ -1,5 +1,5 @@
 -- What names an expression, a type or a statement without a form tells of one by its text.
--- Serves 11 contracts, `write` among them.
+-- Serves 12 contracts, `write_finding` among them.
 use Rattle.std.proofs.Common.{◌≡◌, ℕ, zero, suc, Bool, true, false, List, [], ◌∷◌, None, Option, Some}
 use Rattle.std.proofs.Common.{arith, refl, slice_get, subst, sym}
 use Rattle.std.specs.List.{IsAmong}
