@@ -2,7 +2,8 @@
 -- the list of its statements, each by itself.
 -- Serves 5 contracts, `expression_names` among them.
 use Rattle.std.proofs.Common.{◌≡◌, ℕ, ◌+◌, ◌<◌, ◌≤◌, Bool, true, false, ◌&&◌, ◌||◌, List, [], ◌∷◌}
-use Rattle.std.proofs.Common.{◌++◌, Option, refl, sym, ap, ◌∙◌, arith, append-nil, append_assoc}
+use Rattle.std.proofs.Common.{◌++◌, ◌-◌, Option, None, refl, sym, ap, ap₂, ◌∙◌, arith, append-nil}
+use Rattle.std.proofs.Common.{append_assoc}
 use Rattle.std.proofs.Common.{drop, length, slice_index_or}
 use Rattle.std.proofs.lemmas.List.{drop_all}
 use Rattle.std.proofs.Math.Bool.{and-true, and_assoc, or-false, or_assoc, or_comm}
@@ -13,7 +14,8 @@ use Rattle.std.specs.List.{flat_map}
 use Rattle.std.specs.Option.{option_to_list}
 use Rattle.std.specs.Prelude.{nat_eq, sum_by}
 use Rattle.naga_ir.proofs.Listed.{drop_first}
-use Rattle.module_semantics.specs.ExpressionLabels.{block_labels, cases_labels, labels_in}
+use Rattle.module_semantics.specs.ExpressionLabels.{block_labels, cases_labels, label_of, labels_in}
+use Rattle.module_semantics.specs.ExpressionLabels.{labels_of_each}
 use Rattle.module_semantics.specs.Written.{block_lets, block_handles, cases_lets, cases_handles}
 use Rattle.module_semantics.specs.Written.{function_handles, statement_lets, statement_handles}
 use Rattle.module_semantics.specs.IR.{BlockTree, CaseTrees, Function, SimpleStatement, Statement, StatementTree}
@@ -23,6 +25,7 @@ use Rattle.module_semantics.specs.IR.{trees_of}
 use Rattle.naga_scope.specs.Changes.{block_changes, cases_changes, statement_changes}
 use Rattle.naga_scope.specs.InOrder.{own_changes, own_labels, own_lets, own_handles, handles_with}
 use Rattle.naga_tables.specs.Marks.{is_one_of}
+use Rattle.shader_runs.specs.Program.{from}
 
 -- ---- for all that is told alike
 pub record Monoid (A : Type 0) : Type 0 where
@@ -107,6 +110,30 @@ labels_in_order f = gathered lists (flat_map (own_labels f)) (own_labels f) (lab
     simple_labels : (st : SimpleStatement) → labels_in f (simple st) ≡ own_labels f (simple st)
     simple_labels (emit first end) = refl
     simple_labels _ = refl
+
+-- where front ends named nothing, there are none
+pub none_labelled : (f : Function) → ((h : ℕ) → label_of f h ≡ None) → (sts : List StatementTree) →
+    flat_map (own_labels f) sts ≡ []
+none_labelled f none = of_all
+  where
+    of_each : (hs : List ℕ) → labels_of_each f hs ≡ []
+    of_each [] = refl
+    of_each (h ∷ hs) = ap₂ (λ (xs ys : List (List ℕ)). xs ++ ys) (ap option_to_list (none h)) (of_each hs)
+
+    of_simple : (st : SimpleStatement) → own_labels f (simple st) ≡ []
+    of_simple (emit first end) = of_each (from first (end - first))
+    of_simple _ = refl
+
+    of_one : (st : StatementTree) → own_labels f st ≡ []
+    of_one (simple st) = of_simple st
+    of_one (block b) = refl
+    of_one (branch c x y) = refl
+    of_one (switch s cs) = refl
+    of_one (loop x y e) = refl
+
+    of_all : (sts : List StatementTree) → flat_map (own_labels f) sts ≡ []
+    of_all [] = refl
+    of_all (st ∷ sts) = ap₂ (λ (xs ys : List (List ℕ)). xs ++ ys) (of_one st) (of_all sts)
 
 pub lets_in_order : (binds : ℕ → Bool) (b : BlockTree) → flat_map (own_lets binds) (trees_in b) ≡ block_lets binds b
 lets_in_order binds = gathered lists (flat_map (own_lets binds)) (own_lets binds) (statement_lets binds)

@@ -1,7 +1,7 @@
 -- The check of the rules of scope at a statement finds no fault exactly where it fits.
 -- Serves 7 contracts, `check_act` among them.
 use Rattle.std.proofs.Common.{◌≡◌, ◌⊎◌, inl, inr, ℕ, Bool, true, false, not, List, [], ◌∷◌, Option, Some, None}
-use Rattle.std.proofs.Common.{◌&&◌, ◌||◌, refl, sym, subst, true≢false}
+use Rattle.std.proofs.Common.{◌&&◌, ◌||◌, ◌∙◌, ap, refl, sym, subst, true≢false}
 use Rattle.std.specs.Prelude.{IsTrue, IsFalse, Result, Ok, Err}
 use Rattle.std.specs.Result.{IsErrAnd, is_ok, result_and}
 use Rattle.module_semantics.specs.ExpressionOperators.{ExpressionContext, is_atomic_pointer}
@@ -132,6 +132,19 @@ and_err (Ok x) q e is = inr (refl, is)
 and_err (Err x) q e is = inl cc
 
 -- ---- in code
+-- operands of an Emit that are all in scope
+pub usable_checked : (f : Function) (s : Handles) (n x : ℕ) (hs : List ℕ) → usable_all f s hs ≡ true →
+    Ok tt ≡ check_operands f s n x hs
+usable_checked f s n x [] all = refl
+usable_checked f s n x (h ∷ hs) all = by (usable f s h) refl
+  where
+    by : (b : Bool) → usable f s h ≡ b → Ok tt ≡ check_operands f s n x (h ∷ hs)
+    by true is =
+        usable_checked f s n x hs (sym (ap (λ b. b && usable_all f s hs) is) ∙ all)
+        ∙ sym (ap (λ b. result_and (unless b (EmittedOperand n x h)) (check_operands f s n x hs)) is)
+    by false is =
+        absurd (true≢false (sym (sym (ap (λ b. b && usable_all f s hs) is) ∙ all)))
+
 -- what a `?` gives back
 pub given_back : {X E : Type 0} (r : Result X E) (e : E) → IsErrAnd r (λ y. y ≡ e) → r ≡ Err e
 given_back (Ok x) e is = absurd is

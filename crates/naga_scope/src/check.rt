@@ -187,8 +187,25 @@ fn check_each_use(
 }
 
 /// The fault of an `Emit` that binds the expression with this handle, where an operand of it may not
-/// be written here.
+/// be written here. Mostly all may be.
 fn check_operands(
+    scope: &Scope,
+    known: &KnownFunction<'_>,
+    number: usize,
+    handle: Handle<Expression>,
+    expression: &Expression,
+) -> Result<(), ScopeFault>
+    ensures { result ≡ check_operands (shape_of known.now) (handles_at scope.now) number handle
+        (expression_operands expression.now) }
+{
+    if scope.are_usable(known.function, expression) {
+        return Ok(());
+    }
+    check_each_operand(scope, known, number, handle, expression)
+}
+
+/// The same, one operand after another.
+fn check_each_operand(
     scope: &Scope,
     known: &KnownFunction<'_>,
     number: usize,

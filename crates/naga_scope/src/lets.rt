@@ -1,7 +1,7 @@
 //! What kind of thing an expression is to the rules of scope, and which expressions a `let` binds
 //! where they are emitted.
 
-ghost use Rattle.std.specs.Prelude.{◌≡◌, ◌||◌, slice_get};
+ghost use Rattle.std.specs.Prelude.{◌≡◌, ◌||◌, ℕ, IsTrue, None, slice_get};
 ghost use Rattle.std.specs.Option.{is_some, option_map};
 ghost use Rattle.module_semantics.specs.LetCounts.{is_bound_by_uses, uses_of, uses_to_bind};
 ghost use Rattle.module_semantics.specs.FunctionShapes.{function_shape};
@@ -32,13 +32,20 @@ pub(crate) fn expression_at(function: &Function, handle: Handle<Expression>) -> 
 pub(crate) fn label_of(function: &Function, handle: Handle<Expression>) -> Option<&str>
     ensures { option_map (λ l. l.now) result ≡ label_of function.now handle }
 {
-    if function.named_expressions.is_empty() || handle.index() >= function.expressions.len() {
+    if has_no_labels(function) || handle.index() >= function.expressions.len() {
         return None;
     }
     match function.named_expressions.get(&handle) {
         Some(label) => Some(label.as_str()),
         None => None,
     }
+}
+
+/// Whether front ends named no expression of the function.
+pub(crate) fn has_no_labels(function: &Function) -> bool
+    ensures { (h : ℕ) → IsTrue result → label_of function.now h ≡ None }
+{
+    function.named_expressions.is_empty()
 }
 
 /// Whether a front end named the expression with this handle.

@@ -10,7 +10,7 @@ ghost use Rattle.naga_ir.specs.InOrder.{trees_of};
 ghost use Rattle.naga_scope.specs.InOrder.{own_labels};
 ghost use Rattle.shader_runs.specs.Program.{from};
 
-use crate::lets::label_of;
+use crate::lets::{has_no_labels, label_of};
 use naga_ir::{Expression, Function, Handle, ItemIndex, Range, Statement};
 use naga_names::namer::Namer;
 use naga_naming::NamerError;
@@ -31,6 +31,9 @@ pub(crate) fn expression_names(
         (flat_map (own_labels function.now) (trees_of statements.now)) namer.new) }
 {
     let mut names = Vec::new(alloc);
+    if has_no_labels(function) {
+        return Ok(names);
+    }
     for statement in statements {
         name_statement(function, statement, namer, &mut names)?;
     }

@@ -198,8 +198,26 @@ fn is_constant(
 }
 
 /// Whether each operand of the expression is a constant, or one that the table has in scope
-/// everywhere.
+/// everywhere. Those of an operator between two operands are looked at at once.
 fn has_constant_operands(
+    availabilities: &[Availability],
+    function: &Function,
+    expression: &Expression,
+) -> bool
+    ensures { result ≡ all_constant (is_constant_by availabilities.now function.now.expressions)
+        (expression_operands expression.now) }
+{
+    match expression {
+        Expression::Binary { left, right, .. } => {
+            is_constant(availabilities, function, *left)
+                && is_constant(availabilities, function, *right)
+        }
+        _ => is_each_constant(availabilities, function, expression),
+    }
+}
+
+/// The same, one operand after another.
+fn is_each_constant(
     availabilities: &[Availability],
     function: &Function,
     expression: &Expression,
@@ -343,8 +361,40 @@ impl Scope {
         )
     }
 
-    /// Whether each operand of the expression is in scope here.
-    fn are_usable(&self, function: &Function, expression: &Expression) -> bool
+    /// Whether each operand of the expression is in scope here. Those of a load and of an operator
+    /// between two operands, of which functions have the most, are looked at at once.
+    pub(crate) fn are_usable(&self, function: &Function, expression: &Expression) -> bool
+        ensures { (named : ℕ → List ℕ) (m : Module) (known : ModuleInfo)
+            (es : List ExpressionInfo) → result
+            ≡ usable_all (function_shape m known function.now es) (handles_of named self.now.table)
+            (expression_operands expression.now) }
+    {
+        match expression {
+            Expression::Load { pointer } => self.is_usable(function, *pointer),
+            Expression::Binary { left, right, .. } => {
+                self.are_both_usable(function, *left, *right)
+            }
+            _ => self.is_each_usable(function, expression),
+        }
+    }
+
+    /// The same of two operands.
+    fn are_both_usable(
+        &self,
+        function: &Function,
+        first: Handle<Expression>,
+        second: Handle<Expression>,
+    ) -> bool
+        ensures { (named : ℕ → List ℕ) (m : Module) (known : ModuleInfo)
+            (es : List ExpressionInfo) → result
+            ≡ usable_all (function_shape m known function.now es) (handles_of named self.now.table)
+            (first ∷ second ∷ []) }
+    {
+        self.is_usable(function, first) && self.is_usable(function, second)
+    }
+
+    /// The same, one operand after another.
+    fn is_each_usable(&self, function: &Function, expression: &Expression) -> bool
         ensures { (named : ℕ → List ℕ) (m : Module) (known : ModuleInfo)
             (es : List ExpressionInfo) → result
             ≡ usable_all (function_shape m known function.now es) (handles_of named self.now.table)

@@ -1,11 +1,21 @@
-use Rattle.std.proofs.Common.{ap}
+use Rattle.std.proofs.Common.{[], List, ℕ, ap, map, string_bytes, subst, sym}
 use Rattle.std.specs.List.{flat_map}
 use Rattle.naga_naming.proofs.Reset.{if_err}
-use Rattle.naga_scope.specs.ExpressionNames.{RefusesLabels}
+use Rattle.naga_ir.specs.InOrder.{trees_of}
+use Rattle.naga_scope.specs.ExpressionNames.{NamesLabels, RefusesLabels}
 use Rattle.naga_scope.specs.InOrder.{own_labels}
-use Rattle.naga_scope.proofs.ExpressionNames.{so_far_more, so_far_refused}
-use Rattle.naga_scope.proofs.InOrder.{first_tree}
+use Rattle.naga_scope.proofs.ExpressionNames.{names_none, so_far_more, so_far_refused}
+use Rattle.naga_scope.proofs.InOrder.{first_tree, none_labelled}
 use Rattle.naga_scope.proofs.named.expression_names.Goals as goal
+
+pub returns-then-has_no_labels-clause-ok : goal.returns-then-has_no_labels-clause-ok
+returns-then-has_no_labels-clause-ok c =
+    let none = none_labelled c.args.function.now (λ h. c.has_no_labels.ensures h c.if-has_no_labels.true)
+    (trees_of c.args.statements.now) in
+    subst (λ (labels : List (List ℕ)). NamesLabels c.args.namer.now [] labels c.args.namer.now
+    (map string_bytes c.new-names.result.items)) (sym none)
+    (subst (NamesLabels c.args.namer.now [] [] c.args.namer.now) (sym (ap (map string_bytes) c.new-names.ensures))
+    (names_none c.args.namer.now []))
 
 pub returns-in_err-name_statement-clause-err : goal.returns-in_err-name_statement-clause-err
 returns-in_err-name_statement-clause-err c =

@@ -3,7 +3,7 @@ use Rattle.module_semantics.specs.IR.{ExpressionInfo, Module, ModuleInfo, expres
 use Rattle.shader_runs.specs.Scope.{usable_all}
 use Rattle.module_semantics.specs.FunctionShapes.{function_shape}
 use Rattle.naga_scope.specs.Availabilities.{handles_of}
-use Rattle.naga_scope.proofs.points.Scope.are_usable.Given as goal
+use Rattle.naga_scope.proofs.points.Scope.is_each_usable.Given as goal
 
 abbrev pub invariant-loop-operand : goal.invariant-loop-operand
 invariant-loop-operand l =

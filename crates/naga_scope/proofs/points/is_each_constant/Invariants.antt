@@ -2,7 +2,7 @@ use Rattle.std.proofs.Common.{◌≡◌}
 use Rattle.naga_ir.specs.Operands.{expression_operands}
 use Rattle.shader_runs.specs.Scope.{all_constant}
 use Rattle.naga_scope.specs.Availabilities.{is_constant_by}
-use Rattle.naga_scope.proofs.points.has_constant_operands.Given as goal
+use Rattle.naga_scope.proofs.points.is_each_constant.Given as goal
 
 abbrev pub invariant-loop-operand : goal.invariant-loop-operand
 invariant-loop-operand l =
