@@ -7,14 +7,15 @@ use Rattle.std.proofs.Common.{below_more, get_or, nat_lt, slice_get, slice_set}
 use Rattle.std.proofs.lemmas.Bool.{ltb-false, ltb-true}
 use Rattle.std.proofs.lemmas.Grind.{get_or-set_at}
 use Rattle.std.proofs.lemmas.List.{get_or-set_other, get_or_past, length-set}
-use Rattle.std.proofs.lemmas.Option.{slice_get_past}
+use Rattle.std.proofs.lemmas.Option.{slice_get_past, slice_get_within}
 use Rattle.std.specs.List.{IsAmong, filter}
 use Rattle.std.specs.Option.{option_map_or}
 use Rattle.std.specs.Prelude.{IsFalse, IsSomeAnd, if◌then◌else◌}
 use Rattle.module_semantics.specs.Premises.{OperandsStandBefore}
 use Rattle.module_semantics.specs.Written.{IsWritten, OperandOf, Start}
 use Rattle.module_semantics.specs.IR.{Expression, expression_operands}
-use Rattle.naga_scope.specs.Lacks.{AreLowestLacks, lower, lowest_lack, lowest_of, lowest_over, lowest_within}
+use Rattle.naga_scope.specs.Lacks.{AreLowestLacks, HaveForms, lower, lowest_lack, lowest_of, lowest_over}
+use Rattle.naga_scope.specs.Lacks.{lowest_within}
 use Rattle.shader_runs.specs.Premises.{AllBelow}
 
 -- ---- the lower of two
@@ -86,6 +87,10 @@ module _ (lack : ℕ → Option ℕ) where
       by (inr later) rest =
           let further = rest later in
           (further.0, (suc further.1.0, (omega (arith, further.1.1.0), further.1.1.1)), further.2)
+
+  pub none_of : ((h : ℕ) → lack h ≡ None) → (hs : List ℕ) → lowest_of lack hs ≡ None
+  none_of none [] = refl
+  none_of none (h ∷ hs) = ap₂ lower (none h) (none_of none hs)
 
   -- one more of them, in a loop
   pub lower_more : (found : Option ℕ) (h : ℕ) (hs rest : List ℕ) (all : Option ℕ) → hs ≡ h ∷ rest →
@@ -220,6 +225,39 @@ module _ (formed : Expression → Bool) (es : List Expression) where
     lowest_lacks hs x is =
         let one = some_among (lowest_lack formed es) hs x is in
         made_of (suc one.0) hs one.0 x (omega arith) (Start one.0 one.1) one.2
+
+  -- where each has a form, there is none
+  module _ (all : HaveForms formed es) where
+    none_within : (n h : ℕ) → lowest_within formed n es h ≡ None
+    none_within zero h = refl
+    none_within (suc n) h = by (slice_get es h) refl
+      where
+        by : (o : Option Expression) → slice_get es h ≡ o →
+            option_map_or (lowest_over formed (lowest_within formed n es) h) o None ≡ None
+        by None at = refl
+        by (Some e) at =
+            ap₂ lower (none_of (lowest_within formed n es) (none_within n) (expression_operands e))
+            (ap (λ b. if b then None else Some h) (all h e at))
+
+    pub no_lacks : AreLowestLacks formed es []
+    no_lacks h = sym (none_within (suc h) h)
+
+  -- ---- whether each has a form, as far as those below i
+  abbrev pub HaveFormsBelow : (i : ℕ) → Type 0
+  HaveFormsBelow i = (h : ℕ) → h < i → (e : Expression) → slice_get es h ≡ Some e → formed e ≡ true
+
+  pub no_form_below : HaveFormsBelow 0
+  no_form_below h lt = absurd (omega (arith, lt))
+
+  pub one_form_below : (i : ℕ) (e : Expression) → slice_get es i ≡ Some e → formed e ≡ true →
+      HaveFormsBelow i → HaveFormsBelow (i + 1)
+  one_form_below i e at is below =
+      below_more (λ h. (e : Expression) → slice_get es h ≡ Some e → formed e ≡ true) i below
+      (λ other here. let same : e ≡ other = cc in subst (λ e. formed e ≡ true) same is)
+
+  pub all_forms_below : (i : ℕ) → i ≡ length es → HaveFormsBelow i → HaveForms formed es
+  all_forms_below i all below h e at =
+      let within = slice_get_within es h e at in below h (omega (arith, within, all)) e at
 
   -- ---- a table of them, in which those below i are right
   pub record LacksBelow (lacks : List (Option ℕ)) (i : ℕ) : Type 0 where

@@ -4,7 +4,7 @@
 -- function, h is the handle of one, e an expression, and lack tells of a handle the lowest one without
 -- a form that it is made of, if there is one.
 use Rattle.std.specs.Prelude.{◌≡◌, ℕ, zero, suc, Bool, List, [], ◌∷◌, Option, Some, None, get_or}
-use Rattle.std.specs.Prelude.{if◌then◌else◌, nat_lt, slice_get}
+use Rattle.std.specs.Prelude.{if◌then◌else◌, nat_lt, slice_get, true}
 use Rattle.std.specs.Option.{option_map_or}
 use Rattle.module_semantics.specs.IR.{Expression, expression_operands}
 
@@ -39,3 +39,7 @@ lowest_lack formed es h = lowest_within formed (suc h) es h
 -- a table has it of each handle
 abbrev pub AreLowestLacks : (formed : Expression → Bool) → List Expression → List (Option ℕ) → Type 0
 AreLowestLacks formed es lacks = (h : ℕ) → get_or lacks h None ≡ lowest_lack formed es h
+
+-- each of these has a form
+abbrev pub HaveForms : (formed : Expression → Bool) → List Expression → Type 0
+HaveForms formed es = (h : ℕ) (e : Expression) → slice_get es h ≡ Some e → formed e ≡ true

@@ -1,18 +1,20 @@
 //! Which expressions may be written out as constants, and the lowest expression without a form that each
 //! expression of a function is made of.
 
-ghost use Rattle.std.specs.Prelude.{◌≡◌, List, None, get_or, length, replicate};
-ghost use Rattle.std.specs.Prelude.{IfOk, Some};
+ghost use Rattle.std.specs.Prelude.{◌≡◌, ◌∷◌, [], List, None, get_or, length, replicate};
+ghost use Rattle.std.specs.Prelude.{IfOk, IsTrue, Some, true};
 ghost use Rattle.naga_ir.specs.Operands.{expression_operands};
 ghost use Rattle.naga_ir.specs.declared.expression.Expression.{Expression};
 ghost use Rattle.module_semantics.specs.Premises.{OperandsStandBefore};
 ghost use Rattle.module_semantics.specs.Sampling.{own_offset_has_form};
 ghost use Rattle.module_semantics.specs.WrittenOut.{written_out_over};
 ghost use Rattle.module_semantics.specs.ExpressionForms.{expression_has_form};
+ghost use Rattle.module_semantics.specs.ExpressionForms.{expression_has_own_form};
 ghost use Rattle.naga_tables.specs.Forms.{AreKnownIn};
 ghost use Rattle.naga_scope.specs.KnownFunctions.{expressions_of, has_form_in};
 ghost use Rattle.naga_scope.specs.KnownModules.{IsKnownModule};
-ghost use Rattle.naga_scope.specs.Lacks.{AreLowestLacks, lower, lowest_of, lowest_over};
+ghost use Rattle.naga_scope.specs.Lacks.{AreLowestLacks, HaveForms, lower, lowest_of};
+ghost use Rattle.naga_scope.specs.Lacks.{lowest_over};
 ghost use Rattle.naga_tables.specs.Marks.{MarksConstants};
 ghost use Rattle.naga_tables.specs.Marks.{is_marked};
 
@@ -64,6 +66,26 @@ fn offset_has_form(constants: &[bool], expression: &Expression) -> bool
     }
 }
 
+/// Whether an expression has a form, its offset left out.
+fn has_own_form(known: &KnownFunction<'_>, expression: &Expression) -> bool
+    requires known { IsKnownModule known.now.whole }
+    requires types { AreKnownIn known.now.whole.shader.now.types known.now.info.now }
+    ensures { result
+        ≡ expression_has_own_form known.now.whole.shader.now known.now.info.now expression.now }
+{
+    let whole = &known.whole;
+    match own_refusal(
+        whole.shader,
+        whole.tables,
+        whole.names,
+        known.info,
+        expression,
+    ) {
+        Some(_) => false,
+        None => true,
+    }
+}
+
 /// Whether an expression has a form, by marks of those that may be written out as constants.
 fn expression_has_form(
     constants: &[bool],
@@ -76,17 +98,7 @@ fn expression_has_form(
         result
         ≡ expression_has_form known.now.whole.shader.now known.now.info.now es expression.now }
 {
-    let whole = &known.whole;
-    match own_refusal(
-        whole.shader,
-        whole.tables,
-        whole.names,
-        known.info,
-        expression,
-    ) {
-        Some(_) => false,
-        None => offset_has_form(constants, expression),
-    }
+    has_own_form(known, expression) && offset_has_form(constants, expression)
 }
 
 /// The lower of two handles, if there are any.
@@ -125,8 +137,35 @@ pub(crate) fn lack_at(
     }
 }
 
-/// The lowest that the operands of an expression are made of.
+/// The lowest that the operands of an expression are made of. Those of a load and of an operator
+/// between two operands, of which functions have the most, are looked at at once.
 fn operands_lack(
+    lacks: &[Option<Handle<Expression>>],
+    expression: &Expression,
+) -> Option<Handle<Expression>>
+    ensures { result
+        ≡ lowest_of (λ h. get_or lacks.now h None) (expression_operands expression.now) }
+{
+    match expression {
+        Expression::Load { pointer } => lack_at(lacks, *pointer),
+        Expression::Binary { left, right, .. } => both_lack(lacks, *left, *right),
+        _ => each_lack(lacks, expression),
+    }
+}
+
+/// The same of two operands.
+fn both_lack(
+    lacks: &[Option<Handle<Expression>>],
+    first: Handle<Expression>,
+    second: Handle<Expression>,
+) -> Option<Handle<Expression>>
+    ensures { result ≡ lowest_of (λ h. get_or lacks.now h None) (first ∷ second ∷ []) }
+{
+    lower(lack_at(lacks, first), lack_at(lacks, second))
+}
+
+/// The same, one operand after another.
+fn each_lack(
     lacks: &[Option<Handle<Expression>>],
     expression: &Expression,
 ) -> Option<Handle<Expression>>
@@ -187,6 +226,43 @@ fn note_lacks(
     }
 }
 
+/// Whether an expression has no offset.
+fn has_no_offset(expression: &Expression) -> bool
+    ensures { (es : List Expression) → IsTrue result → own_offset_has_form es expression.now ≡ true }
+{
+    match expression {
+        Expression::ImageSample { offset, .. } => match offset {
+            Some(_) => false,
+            None => true,
+        },
+        _ => true,
+    }
+}
+
+/// Whether an expression is seen to have a form without marks: one with an offset is not.
+fn has_plain_form(known: &KnownFunction<'_>, expression: &Expression) -> bool
+    requires known { IsKnownModule known.now.whole }
+    requires types { AreKnownIn known.now.whole.shader.now.types known.now.info.now }
+    ensures { IsTrue result → has_form_in known.now expression.now ≡ true }
+{
+    has_no_offset(expression) && has_own_form(known, expression)
+}
+
+/// Whether each expression of the function is seen to have a form, as in most functions: then no
+/// table is needed to tell that none lacks one.
+fn have_plain_forms(known: &KnownFunction<'_>) -> bool
+    requires known { IsKnownModule known.now.whole }
+    requires types { AreKnownIn known.now.whole.shader.now.types known.now.info.now }
+    ensures { IsTrue result → HaveForms (has_form_in known.now) (expressions_of known.now) }
+{
+    for index in 0..known.function.expressions.len() {
+        if !has_plain_form(known, &known.function.expressions[ItemIndex::from_index(index)]) {
+            return false;
+        }
+    }
+    true
+}
+
 /// A table of so many cells without a handle.
 fn no_lacks(alloc: Global, count: usize) -> Result<Vec<Option<Handle<Expression>>>, AllocError>
     ensures { IfOk result (λ lacks. lacks.items ≡ replicate count None) }
@@ -195,7 +271,8 @@ fn no_lacks(alloc: Global, count: usize) -> Result<Vec<Option<Handle<Expression>
 }
 
 /// A table of the lowest expression without a form that each expression of the function is made of,
-/// itself among them. It takes memory for the table, and for one of marks that is given back.
+/// itself among them; where each is seen to have a form, it is empty. Else it takes memory for the
+/// table, and for one of marks that is given back.
 pub(crate) fn lowest_lacks(
     known: &KnownFunction<'_>,
 ) -> Result<Vec<Option<Handle<Expression>>>, AllocError>
@@ -206,6 +283,9 @@ pub(crate) fn lowest_lacks(
         AreLowestLacks (has_form_in known.now) (expressions_of known.now) lacks.items) }
 {
     let alloc = known.whole.alloc;
+    if have_plain_forms(known) {
+        return Ok(Vec::new(alloc));
+    }
     let mut constants = no_marks(alloc, known.function.expressions.len())?;
     mark_constants(&mut constants, known.function);
     let mut lacks = no_lacks(alloc, known.function.expressions.len())?;

@@ -112,10 +112,11 @@ impl Plan {
     /// The namer names the labels that front ends gave to what the function emits, in the order of
     /// the text. Where there is no plan, it has named some first ones of them.
     ///
-    /// Beside the names it takes memory for a list of the statements, and four times more: one
-    /// table and its log serve the walk, are then set back to the function's start, and serve the
-    /// text; two others have the marks of what may be written out as a constant and the lowest
-    /// expression without a form that each is made of, and are given back as the list is.
+    /// Beside the names it takes memory for a list of the statements, and twice more: one table and
+    /// its log serve the walk, are then set back to the function's start, and serve the text. Where
+    /// an expression has an offset or no form, two more tables have the marks of what may be written
+    /// out as a constant and the lowest expression without a form that each is made of. They are
+    /// given back as the list is.
     pub fn of(
         known: &KnownModule<'_>,
         ty: FunctionType,

@@ -118,12 +118,16 @@ impl Walk<'_> {
     }
 
     /// The lowest that what a statement writes is made of, without what stands in its blocks and its
-    /// `break if`. A store, of which functions have the most, is looked at once.
+    /// `break if`: none where the table has none. A store, of which functions have the most, is looked
+    /// at once.
     fn written_lack(&self, statement: &Statement) -> Option<Handle<Expression>>
         requires tables { HasTables self.now }
         ensures { result ≡ lowest_of (lowest_in (walked self.now))
             (line_own_handles (bound_in self.now.known) (tree_of statement.now)) }
     {
+        if self.lacks.is_empty() {
+            return None;
+        }
         match statement {
             Statement::Emit(range) => self.lack_of_emitted(*range),
             Statement::Loop { .. } => None,

@@ -1,25 +1,15 @@
 use Rattle.std.proofs.Common.{◌&&◌, ap, sym, ◌∙◌}
-use Rattle.module_semantics.specs.ExpressionForms.{expression_has_own_form}
 use Rattle.module_semantics.specs.Sampling.{own_offset_has_form}
-use Rattle.naga_tables.proofs.Refusals.{own_refusal_is, refused_lacks, unrefused_has}
-use Rattle.naga_tables.specs.Refusals.{own_refusal}
 use Rattle.naga_scope.proofs.lacks.expression_has_form.Goals as goal
 
-pub returns-in-Some : goal.returns-in-Some
-returns-in-Some c es are =
-    let m = c.args.known.now.whole.shader.now in
-    let known = c.args.known.now.info.now in
-    let e = c.args.expression.now in
-    sym (ap (λ b. b && own_offset_has_form es e)
-    (refused_lacks (own_refusal m known e) (expression_has_own_form m known e) (own_refusal_is m known e)
-    _ (sym c.in-Some.ensures)))
-
-pub returns-in-None : goal.returns-in-None
-returns-in-None c es are =
-    let m = c.args.known.now.whole.shader.now in
-    let known = c.args.known.now.info.now in
-    let e = c.args.expression.now in
+pub returns-then-has_own_form : goal.returns-then-has_own_form
+returns-then-has_own_form c es are =
     c.offset_has_form.ensures es are
-    ∙ sym (ap (λ b. b && own_offset_has_form es e)
-    (unrefused_has (own_refusal m known e) (expression_has_own_form m known e) (own_refusal_is m known e)
-    (sym c.in-None.ensures)))
+    ∙ ap (λ b. b && own_offset_has_form es c.args.expression.now)
+    (sym (sym c.has_own_form.ensures ∙ c.if-has_own_form.true))
+
+pub returns-else-has_own_form : goal.returns-else-has_own_form
+returns-else-has_own_form c es are =
+    c.if-has_own_form.false
+    ∙ ap (λ b. b && own_offset_has_form es c.args.expression.now)
+    (sym (sym c.has_own_form.ensures ∙ c.if-has_own_form.false))
