@@ -248,7 +248,7 @@ impl FunctionText<'_> {
             (text_at self.now at.old.scope block_text 1 self.now.function.now.body) }
     {
         at.indent.deepen(out);
-        self.write_here(&self.function.body, at, out);
+        self.write_lines(self.function.body.as_slice(), at, out);
     }
 
     /// The locals, and an empty line after them if there are any.
