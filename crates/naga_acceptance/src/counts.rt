@@ -35,7 +35,23 @@ fn add_optional_use(infos: &mut [ExpressionInfo], handle: Option<Handle<Expressi
     }
 }
 
+/// Counts the operands of an expression. Those of a load and of an operator between two operands, of
+/// which functions have the most, are counted at once.
 fn add_expression_uses(infos: &mut [ExpressionInfo], expression: &Expression)
+    ensures { infos.new ≡ with_uses infos.old (expression_operands expression.now) }
+{
+    match expression {
+        Expression::Load { pointer } => add_use(infos, *pointer),
+        Expression::Binary { left, right, .. } => {
+            add_use(infos, *left);
+            add_use(infos, *right)
+        }
+        _ => add_each_use(infos, expression),
+    }
+}
+
+/// The same, one operand after another.
+fn add_each_use(infos: &mut [ExpressionInfo], expression: &Expression)
     ensures { infos.new ≡ with_uses infos.old (expression_operands expression.now) }
 {
     for operand in expression.operands() {

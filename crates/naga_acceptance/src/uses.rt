@@ -5,7 +5,8 @@ ghost use Rattle.std.specs.Option.{option_map};
 ghost use Rattle.std.specs.Str.{bytes_eq};
 ghost use Rattle.naga_acceptance.specs.KnownTypes.{known_types};
 ghost use Rattle.naga_acceptance.specs.OperatorKeys.{key};
-ghost use Rattle.naga_acceptance.specs.Uses.{all_mixed, hash_of, is_same_operator, operation};
+ghost use Rattle.naga_acceptance.specs.Uses.{all_mixed, hash_of, is_same_operator, lists_mixed};
+ghost use Rattle.naga_acceptance.specs.Uses.{operation};
 ghost use Rattle.naga_ir.specs.Operands.{expression_operands};
 ghost use Rattle.module_semantics.specs.acceptance.AgreeingOperators.{expression_use, identity_at};
 ghost use Rattle.module_semantics.specs.acceptance.Operations.{are_same_words};
@@ -70,7 +71,33 @@ fn is_alike_at(
     }
 }
 
+/// Whether the operands of both have types alike. Those of operators between two operands, of which
+/// functions have the most, are looked at at once.
 fn are_operands_alike(types: &UniqueArena<Type_>, a: &Use<'_>, b: &Use<'_>) -> bool
+    ensures { result ≡ are_same_words
+        (map (identity_at types.now (known_types a.now.known))
+        (expression_operands a.now.expression.now))
+        (map (identity_at types.now (known_types b.now.known))
+        (expression_operands b.now.expression.now)) }
+{
+    match a.expression {
+        Expression::Binary { left, right, .. } => match b.expression {
+            Expression::Binary {
+                left: first,
+                right: second,
+                ..
+            } => {
+                is_alike_at(types, a.known, *left, b.known, *first)
+                    && is_alike_at(types, a.known, *right, b.known, *second)
+            }
+            _ => is_each_alike(types, a, b),
+        },
+        _ => is_each_alike(types, a, b),
+    }
+}
+
+/// The same, one operand after another.
+fn is_each_alike(types: &UniqueArena<Type_>, a: &Use<'_>, b: &Use<'_>) -> bool
     ensures { result ≡ are_same_words
         (map (identity_at types.now (known_types a.now.known))
         (expression_operands a.now.expression.now))
@@ -132,13 +159,39 @@ fn operand_mixed(
     }
 }
 
-/// The hash of a use: the same for one operator over operands of types alike.
-pub(crate) fn hash_of(types: &UniqueArena<Type_>, used: &Use<'_>) -> usize
-    ensures { result ≡ hash_of (operation types.now used.now) }
+/// The types of a use's operands. Those of an operator between two operands are looked at at once.
+fn operands_mixed(types: &UniqueArena<Type_>, hash: usize, used: &Use<'_>) -> usize
+    ensures { result ≡ lists_mixed hash
+        (map (identity_at types.now (known_types used.now.known))
+        (expression_operands used.now.expression.now)) }
 {
-    let mut hash = key_mixed(types, 0, &used.key);
+    match used.expression {
+        Expression::Binary { left, right, .. } => operand_mixed(
+            types,
+            used.known,
+            operand_mixed(types, used.known, hash, *left),
+            *right,
+        ),
+        _ => each_mixed(types, hash, used),
+    }
+}
+
+/// The same, one operand after another.
+fn each_mixed(types: &UniqueArena<Type_>, hash: usize, used: &Use<'_>) -> usize
+    ensures { result ≡ lists_mixed hash
+        (map (identity_at types.now (known_types used.now.known))
+        (expression_operands used.now.expression.now)) }
+{
+    let mut hash = hash;
     for operand in used.expression.operands() {
         hash = operand_mixed(types, used.known, hash, operand);
     }
     hash
+}
+
+/// The hash of a use: the same for one operator over operands of types alike.
+pub(crate) fn hash_of(types: &UniqueArena<Type_>, used: &Use<'_>) -> usize
+    ensures { result ≡ hash_of (operation types.now used.now) }
+{
+    operands_mixed(types, key_mixed(types, 0, &used.key), used)
 }

@@ -4,7 +4,7 @@ use Rattle.naga_ir.specs.Operands.{expression_operands}
 use Rattle.module_semantics.specs.acceptance.AgreeingOperators.{identity_at}
 use Rattle.module_semantics.specs.acceptance.Operations.{are_same_words}
 use Rattle.naga_acceptance.specs.KnownTypes.{known_types}
-use Rattle.naga_acceptance.proofs.uses.are_operands_alike.Given as goal
+use Rattle.naga_acceptance.proofs.uses.is_each_alike.Given as goal
 
 -- those that are left are alike where all are
 abbrev pub invariant-loop-operand : goal.invariant-loop-operand
