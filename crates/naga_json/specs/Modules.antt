@@ -31,6 +31,10 @@ use Rattle.naga_json.specs.declared.modules.Known.{Known}
 use Rattle.naga_ir.specs.Literals.{literal_scalar}
 use Rattle.naga_ir.specs.declared.expression.Expression.{Expression}
 use Rattle.naga_ir.specs.declared.module.Module.{Module}
+use Rattle.naga_ir.specs.declared.operators.BinaryOperator.{BinaryOperator}
+use Rattle.naga_ir.specs.declared.operators.BinaryOperator.TheVariants as binary
+use Rattle.naga_ir.specs.declared.operators.MathFunction.{MathFunction}
+use Rattle.naga_ir.specs.declared.operators.MathFunction.TheVariants as math
 use Rattle.naga_ir.specs.declared.types.Scalar.{Scalar}
 use Rattle.naga_ir.specs.declared.types.ScalarKind.{ScalarKind}
 use Rattle.naga_ir.specs.declared.types.TypeInner.{TypeInner}
@@ -137,12 +141,27 @@ scalar_by m (Expression.ZeroValue ty) = scalar_at m ty
 scalar_by m (Expression.As operand kind width) = Some (record { kind = kind; width = told_width width })
 scalar_by m _ = None
 
+-- an operator between two operands gives no truth value
+abbrev pub gives_operands_type : BinaryOperator → Bool
+gives_operands_type binary.Equal = false
+gives_operands_type binary.NotEqual = false
+gives_operands_type binary.Less = false
+gives_operands_type binary.LessEqual = false
+gives_operands_type binary.Greater = false
+gives_operands_type binary.GreaterEqual = false
+gives_operands_type _ = true
+
+-- a function gives the type of its first argument, where that is a scalar
+abbrev pub gives_arguments_type : MathFunction → Bool
+gives_arguments_type math.Dot4I8Packed = false
+gives_arguments_type _ = true
+
 -- the operand of whose type an operator is
 abbrev pub typed_as : Expression → Option ℕ
 typed_as (Expression.Unary op operand) = Some operand
-typed_as (Expression.Binary op left right) = Some left
+typed_as (Expression.Binary op left right) = if gives_operands_type op then Some left else None
 typed_as (Expression.Select condition accept reject) = Some accept
-typed_as (Expression.Math fun arg arg1 arg2 arg3) = Some arg
+typed_as (Expression.Math fun arg arg1 arg2 arg3) = if gives_arguments_type fun then Some arg else None
 typed_as _ = None
 
 -- the scalar of an expression, over at most so many operands in one another

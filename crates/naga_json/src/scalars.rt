@@ -1,9 +1,10 @@
 //! The scalars of a module's own expressions, as far as the sizes of workgroups ask for them.
 
 ghost use Rattle.std.specs.Prelude.{◌≡◌, slice_get};
-ghost use Rattle.naga_json.specs.Modules.{scalar_at, scalar_by, scalar_of, seen_module, typed_as};
+ghost use Rattle.naga_json.specs.Modules.{gives_arguments_type, gives_operands_type, scalar_at};
+ghost use Rattle.naga_json.specs.Modules.{scalar_by, scalar_of, seen_module, typed_as};
 
-use naga_ir::{Expression, Handle, Module, Scalar, Type_, TypeInner};
+use naga_ir::{BinaryOperator, Expression, Handle, MathFunction, Module, Scalar, Type_, TypeInner};
 
 /// The scalar of one of the module's own expressions: that of a literal, the type of a constant, an
 /// override or a zero value, what a conversion makes, or that of the first operand of another
@@ -31,11 +32,33 @@ fn typed_as(expression: &Expression) -> Option<Handle<Expression>>
 {
     match *expression {
         Expression::Unary { expr, .. } => Some(expr),
-        Expression::Binary { left, .. } => Some(left),
+        Expression::Binary { op, left, .. } if gives_operands_type(op) => Some(left),
         Expression::Select { accept, .. } => Some(accept),
-        Expression::Math { arg, .. } => Some(arg),
+        Expression::Math { fun, arg, .. } if gives_arguments_type(fun) => Some(arg),
         _ => None,
     }
+}
+
+/// Whether an operator between two operands gives no truth value.
+fn gives_operands_type(op: BinaryOperator) -> bool
+    ensures { result ≡ gives_operands_type op }
+{
+    !matches!(
+        op,
+        BinaryOperator::Equal
+            | BinaryOperator::NotEqual
+            | BinaryOperator::Less
+            | BinaryOperator::LessEqual
+            | BinaryOperator::Greater
+            | BinaryOperator::GreaterEqual
+    )
+}
+
+/// Whether a function gives the type of its first argument, where that is a scalar.
+fn gives_arguments_type(fun: MathFunction) -> bool
+    ensures { result ≡ gives_arguments_type fun }
+{
+    !matches!(fun, MathFunction::Dot4I8Packed)
 }
 
 /// What an expression tells of its scalar without operands.
