@@ -6,10 +6,10 @@
 -- expression, op an operator, and t are the names that types are spelled with.
 use Rattle.std.specs.Prelude.{ℕ, List, [], ◌∷◌, Option, Bool, true, false, suc, None, Some}
 use Rattle.std.specs.Prelude.{slice_get, zero}
-use Rattle.std.specs.Prelude.{length, map, codes, ◌&&◌}
+use Rattle.std.specs.Prelude.{length, map, ◌&&◌}
 use Rattle.naga_back.specs.Flags.{is_portable}
 use Rattle.naga_back.specs.declared.flags.WriterFlags.{WriterFlags}
-use Rattle.std.specs.Option.{option_map, option_map_or, option_and_then, is_some, option_to_list}
+use Rattle.std.specs.Option.{option_map_or, is_some, option_to_list}
 use Rattle.naga_ir.specs.declared.expression.Expression as ir
 use Rattle.naga_ir.specs.declared.expression.Expression.TheVariants as expression
 use Rattle.naga_ir.specs.declared.types.TypeInner.{TypeInner}

@@ -1,10 +1,10 @@
 -- The texts of parts: what they are taken of, and what is chosen.
 -- Serves 13 contracts, `write_in_parentheses` among them.
 use Rattle.std.proofs.Common.{◌≡◌, ℕ, zero, suc, Bool, true, false, List, [], ◌∷◌, ◌++◌, length}
-use Rattle.std.proofs.Common.{Option, Some, None, codes, refl, sym, ap, ◌∙◌, get_or, map}
+use Rattle.std.proofs.Common.{Option, Some, None, codes, refl, sym, ap, ◌∙◌, get_or}
 use Rattle.std.proofs.lemmas.List.{append-nil}
 use Rattle.std.specs.Prelude.{slice_get, if◌then◌else◌, decimal}
-use Rattle.std.specs.Option.{is_some, option_map_or}
+use Rattle.std.specs.Option.{option_map_or}
 use Rattle.naga_ir.specs.Operands.{expression_operands, cooperative_operands, query_operands}
 use Rattle.naga_ir.specs.declared.expression.Expression as ir
 use Rattle.naga_ir.specs.declared.expression.Expression.TheVariants as expression
@@ -26,13 +26,13 @@ use Rattle.naga_wgsl_fns.specs.Expressions.{part_base_text, part_end_text, part_
 use Rattle.naga_wgsl_fns.specs.Expressions.{part_value_text, plain_address_text, plain_text}
 use Rattle.naga_wgsl_fns.specs.Expressions.{plain_tree, pointed_text, reference_text, word_text}
 use Rattle.naga_wgsl_fns.specs.Expressions.{own_form}
-use Rattle.module_semantics.specs.Names.{constant_name, global_name, module_names, name_in}
+use Rattle.module_semantics.specs.Names.{global_name, module_names, name_in}
 use Rattle.module_semantics.specs.Names.{numbered_name}
 use Rattle.naga_naming.specs.declared.key.NameKey.TheVariants as key
 use Rattle.std.proofs.lemmas.Option.{same_Some}
-use Rattle.naga_form.proofs.operators.Operators.{query_is_called, IsCalled, cast_called}
+use Rattle.naga_form.proofs.operators.Operators.{query_is_called, cast_called}
 use Rattle.naga_form.proofs.operators.Operators.{constructor_called, load_called}
-use Rattle.module_semantics.specs.ExpressionOperators.{query_operator, ExpressionContext}
+use Rattle.module_semantics.specs.ExpressionOperators.{query_operator}
 use Rattle.module_semantics.specs.ExpressionOperators.{applied_operator, load_operator}
 use Rattle.module_semantics.specs.ExpressionOperators.{is_atomic_pointer, type_known}
 use Rattle.naga_wgsl_fns.proofs.PartForms.{part_form, part_unsigned, selected_unsigned}
@@ -48,16 +48,10 @@ use Rattle.wgsl_text.proofs.Expressions.{address_text as address_row_text}
 use Rattle.wgsl_text.proofs.Expressions.{member_text as member_row_text}
 use Rattle.wgsl_text.proofs.Text.{text-append}
 use Rattle.wgsl_text.specs.Expressions as tree
-use Rattle.module_semantics.specs.ExpressionContexts.{expression_context}
-use Rattle.naga_form.specs.ConstantForms.{constant_form_over, global_form, global_form_within}
-use Rattle.naga_form.specs.ConstantForms.{constant_form_by, no_constant_form, written_constant_form}
-use Rattle.naga_ir.specs.declared.module.Constant as ir_constant
 use Rattle.naga_ir.specs.declared.module.Module.{Module}
-use Rattle.naga_spelling.specs.Contexts.{Names as TypeNames}
-use Rattle.naga_wgsl_fns.specs.FunctionText.{named_in, type_names_of, CanWrite, IsInText, context}
+use Rattle.naga_wgsl_fns.specs.FunctionText.{named_in, CanWrite, IsInText, context}
 use Rattle.naga_wgsl_fns.specs.FunctionText.{expressions, handles_in, naming, source}
 use Rattle.naga_form.specs.TypeTrees.{type_tree}
-use Rattle.naga_form.specs.Operators.{applied_form, notation}
 use Rattle.naga_info.specs.declared.info.TypeResolution.TheVariants.{Handle}
 use Rattle.naga_scope.specs.Availabilities.{availability_of}
 use Rattle.naga_scope.specs.declared.points.BoundName.{BoundName}

@@ -1,5 +1,5 @@
 -- The text of a constant, by its name or its initialiser, and from what is written of that in turn.
--- Serves `global`, `write_called_global`, `write_made_global` and `write_next_part`.
+-- Serves 11 contracts, `write_called_global` among them.
 use Rattle.std.proofs.Common.{◌≡◌, ℕ, ◌<◌, Bool, true, false, List, [], ◌∷◌, length, Option, Some}
 use Rattle.std.proofs.Common.{None, codes, refl, sym, ap, ap₂, ◌∙◌, map, slice_get, subst, Global}
 use Rattle.std.proofs.Common.{Vec, true≢false}

@@ -1,4 +1,5 @@
 -- The texts of operators among a module's own expressions, from what is written of them in turn.
+-- Serves 6 contracts, `write_bits` among them.
 --
 -- Throughout, m is a module, h the handle of one of its own expressions e, op an operator, x that of
 -- an operand (xs are several), word a word, and kind and convert are those of a conversion.
@@ -19,8 +20,8 @@ use Rattle.naga_ir.specs.declared.types.ScalarKind.{ScalarKind}
 use Rattle.naga_ir.specs.declared.types.TypeInner.TheVariants as inner
 use Rattle.module_semantics.specs.Conversions.{converted_scalar}
 use Rattle.module_semantics.specs.ExpressionForms.{global_has_form, global_has_form_over}
-use Rattle.module_semantics.specs.ExpressionForms.{operator_has_form, told_scalar}
-use Rattle.module_semantics.specs.ExpressionOperators.{called_word, cast, type_known}
+use Rattle.module_semantics.specs.ExpressionForms.{operator_has_form}
+use Rattle.module_semantics.specs.ExpressionOperators.{called_word, type_known}
 use Rattle.module_semantics.specs.OperatorTable.{Math, Operator, Relational, Select, Splat}
 use Rattle.module_semantics.specs.OperatorTable.{operator_word, own_word}
 use Rattle.module_semantics.specs.Types.{type_names}
@@ -41,7 +42,6 @@ use Rattle.naga_wgsl_shared.specs.Constants.{converted_global_text, converted_wo
 use Rattle.naga_wgsl_shared.specs.Constants.{global_text, infix_global_text, parts_at, parts_text}
 use Rattle.naga_wgsl_shared.specs.Constants.{prefix_global_text, spaced_text}
 use Rattle.naga_wgsl_shared.specs.ModuleText.{CanWriteOf}
-use Rattle.naga_tables.specs.Marks.{GlobalsStandInOrder}
 use Rattle.wgsl_text.proofs.Expressions.{binary_text as binary_row_text, call_text as call_row_text}
 use Rattle.wgsl_text.proofs.Expressions.{unary_text as unary_row_text}
 use Rattle.wgsl_text.proofs.Types.{named_text}

@@ -1,6 +1,6 @@
 -- A module's own expression is written by another where it names constants without names; it is a
 -- sign before its operand where that is.
--- Serves `global`.
+-- Serves `global` and `is_signed_global`.
 --
 -- Throughout, m is a module, representatives tell by which each of its own expressions is written, h is one of
 -- these, and e what stands there.
@@ -16,7 +16,7 @@ use Rattle.naga_ir.specs.declared.module.Constant.{Constant}
 use Rattle.naga_ir.specs.declared.module.Module.{Module}
 use Rattle.naga_ir.specs.declared.operators.UnaryOperator.{UnaryOperator}
 use Rattle.module_semantics.specs.ExpressionForms.{operator_has_form}
-use Rattle.module_semantics.specs.ExpressionOperators.{constructor, type_known}
+use Rattle.module_semantics.specs.ExpressionOperators.{type_known}
 use Rattle.module_semantics.specs.Names.{constant_name, module_names}
 use Rattle.module_semantics.specs.OperatorTable.{Operator}
 use Rattle.module_semantics.specs.Types.{type_names}

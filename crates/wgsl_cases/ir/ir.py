@@ -244,7 +244,7 @@ MODULE = Struct(
     ("global_expressions", arena(EXPRESSION, 8)), ("functions", arena(FUNCTION, 2)),
     ("entry_points", Listed(ENTRY_POINT, most=2)),
     ("diagnostic_filters", Growing(FILTER_NODE, "Arena { items: [", "] }")), ("diagnostic_filter_leaf", Earlier()),
-    others=("doc_comments",), unread=("keeps_digits: false",))
+    others=("doc_comments",), unread=("keeps_digits: false", "computes_constants: false", "keeps_bound_offsets: false"))
 
 # ---- what is known of a module
 RESOLUTION = Enum("TypeResolution", ("Handle", HANDLE), ("Value", TYPE_INNER))

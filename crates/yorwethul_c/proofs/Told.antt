@@ -1,7 +1,7 @@
 -- What a call tells, from what its steps say.
 use Rattle.std.proofs.Common.{◌≡◌, ◌≤◌, ◌∙◌, ℕ, List, [], Err, IfErr, IfOk, None, Ok, Option}
 use Rattle.std.proofs.Common.{Result, Some, ap, inl, inr, is_none, length, refl, subst, sym, arith}
-use Rattle.std.specs.Prelude.{Bool, true, false}
+use Rattle.std.specs.Prelude.{true, false}
 use Rattle.std.proofs.lemmas.Bool.{le-leb, lt-leb}
 use Rattle.decimal_floats.specs.Decimals.{IsDecimalModule, IsDecimalThroughout, asking_standard}
 use Rattle.std.specs.Prelude.{◌<◌, ◌%◌, IfSome, IsTrue, IsUtf8}

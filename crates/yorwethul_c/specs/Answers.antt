@@ -3,7 +3,7 @@
 -- Throughout, json is the bytes that a call was given, given is what was read of them, m is a module,
 -- read is what is known of it, info is the same with counts of uses, and from is what the JSON holds
 -- by which positions are told.
-use Rattle.std.specs.Prelude.{◌≡◌, ◌<◌, ◌≤◌, ℕ, ◌%◌, ◌++◌, ◌⊎◌, Bool, true, false, IsTrue, IsUtf8}
+use Rattle.std.specs.Prelude.{◌≡◌, ◌≤◌, ℕ, ◌%◌, ◌++◌, ◌⊎◌, Bool, true, false, IsTrue, IsUtf8}
 use Rattle.std.specs.Prelude.{List, [], None, Option, Some, length}
 use Rattle.std.specs.Option.{IfSome}
 use Rattle.std.specs.Prelude.{drop, if◌then◌else◌, nat_le, Result, Ok, Err}

@@ -40,9 +40,8 @@ use Rattle.module_semantics.specs.Layouts.{written_size}
 use Rattle.module_semantics.specs.Names.{module_names, name_in, wgsl_names}
 use Rattle.module_semantics.specs.acceptance.Numbers.{binding_fits_32_bits, fits_32_bits}
 use Rattle.module_semantics.specs.acceptance.Numbers.{member_fits_32_bits, type_fits_32_bits}
-use Rattle.module_semantics.specs.acceptance.Numbers.{workgroup_fits_32_bits}
 use Rattle.module_semantics.specs.acceptance.Ranges.{constant_in_range, global_in_range, is_below}
-use Rattle.module_semantics.specs.acceptance.Ranges.{function_in_range, override_in_range}
+use Rattle.module_semantics.specs.acceptance.Ranges.{override_in_range}
 use Rattle.module_semantics.specs.acceptance.Ranges.{special_types_fit, types_in_range}
 use Rattle.module_semantics.specs.Types.{type_names}
 use Rattle.module_semantics.specs.Undeclared.{is_declared}

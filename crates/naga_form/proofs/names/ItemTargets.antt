@@ -3,7 +3,7 @@
 --
 -- Throughout, m is a module, of which info is known, i is the number of a constant or an override, o
 -- that of an override alone, v a variable, and h the handle of one of the module's own expressions.
-use Rattle.std.proofs.Common.{◌≡◌, ℕ, ◌<◌, true, [], None, Some, suc, sym, ap, subst, ◌∙◌}
+use Rattle.std.proofs.Common.{◌≡◌, ℕ, ◌<◌, true, [], Some, suc, sym, ap, subst, ◌∙◌}
 use Rattle.std.proofs.Common.{List, length, map}
 use Rattle.std.specs.Option.{option_map_or}
 use Rattle.std.specs.Prelude.{IsTrue}
@@ -11,7 +11,7 @@ use Rattle.naga_info.specs.declared.info.ModuleInfo.{ModuleInfo}
 use Rattle.naga_ir.specs.declared.module.Module.{Module}
 use Rattle.naga_naming.proofs.Refusal.{element}
 use Rattle.module_semantics.specs.acceptance.Accepted.{is_accepted}
-use Rattle.module_semantics.specs.ExpressionContexts.{expression_context, global_tree}
+use Rattle.module_semantics.specs.ExpressionContexts.{global_tree}
 use Rattle.module_semantics.specs.ExpressionContexts.{override_number}
 use Rattle.module_semantics.specs.ModuleShapes.{module_shape, variable_shape}
 use Rattle.module_semantics.specs.Names.{global_name, LabelNames, module_names}

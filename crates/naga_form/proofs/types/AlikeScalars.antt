@@ -3,7 +3,7 @@
 -- Throughout, types are a module's types, f tells the form of the type at a handle, code is what
 -- tells a type without a form, s and t are scalars, it is a type by itself, r a type of an
 -- expression, h a handle, and o a form that may be missing.
-use Rattle.std.proofs.Common.{◌≡◌, ℕ, Bool, true, false, not, List, [], ◌∷◌, ◌++◌, refl, sym, ap}
+use Rattle.std.proofs.Common.{◌≡◌, ℕ, Bool, true, false, not, List, ◌∷◌, ◌++◌, refl, sym, ap}
 use Rattle.std.proofs.Common.{◌∙◌, Option, Some, None, arith, get_or, slice_get, if◌then◌else◌}
 use Rattle.std.proofs.Common.{true≢false}
 use Rattle.std.specs.Prelude.{nat_eq, unwrap_or}
@@ -23,7 +23,7 @@ use Rattle.wgsl_words.specs.Words.{scalar_word, space_word}
 use Rattle.module_semantics.proofs.AlikeTypes.{if_either}
 use Rattle.module_semantics.proofs.TypeIdentity.{kind_distinguished, kind_of}
 use Rattle.module_semantics.specs.AlikeTypes.{found_key_by, handle_key, image_key, inner_key_by}
-use Rattle.module_semantics.specs.AlikeTypes.{key_within, named_key_by, over_scalar, pointer_key}
+use Rattle.module_semantics.specs.AlikeTypes.{key_within, over_scalar, pointer_key}
 use Rattle.module_semantics.specs.AlikeTypes.{scalar_key, type_identity, value_key}
 use Rattle.module_semantics.specs.TypeIdentity.{dimension_number, identity, identity_code}
 use Rattle.module_semantics.specs.TypeIdentity.{kind_number, level, truth_number}
