@@ -26,7 +26,8 @@ pub fn lost_layouts(
     ensures { IfOk result (λ lost. lost.items ≡ lost_layouts «module».now) }
 {
     if module.keeps_bound_offsets {
-        lost_among(alloc, module)
+        let lost = lost_among(alloc, module)?;
+        Ok(lost)
     } else {
         Ok(Vec::new(alloc))
     }

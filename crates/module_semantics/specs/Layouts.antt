@@ -113,11 +113,11 @@ pub record HasOtherStride (m : Module) (h ty : ℕ) : Type 0 where
   pub is : member.ty ≡ ty
   pub other : IsFalse (arrays_are_kept (module_rule m) m.types ty)
 
--- A module that keeps the offsets of bound structs is refused for none that it would not be refused
--- for else.
+-- the module, where it keeps the offsets of bound structs, or where it does not
 abbrev pub keeping_bound : (keeps : Bool) → Module → Module
 keeping_bound keeps m = record m { keeps_bound_offsets = keeps }
 
+-- Where it keeps them, it is refused for no struct that it would not be refused for without that.
 pub record NoneIsRefusedForBindings (m : Module) : Type 0 where
   pub misplaced : (h : ℕ) (fault : Misplaced) → IsMisplaced (keeping_bound true m) h fault →
       IsMisplaced (keeping_bound false m) h fault

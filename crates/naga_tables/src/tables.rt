@@ -10,6 +10,7 @@ ghost use Rattle.module_semantics.specs.Undeclared.{handle_names_undeclared, is_
 ghost use Rattle.module_semantics.specs.Undeclared.{is_undeclared, names_undeclared};
 ghost use Rattle.naga_info.specs.declared.info.TypeResolution.TheVariants.{Handle as OfHandle};
 ghost use Rattle.naga_ir.specs.Operands.{expression_operands};
+ghost use Rattle.naga_layout.specs.Bindings.{TellBindings};
 ghost use Rattle.naga_layout.specs.Tables.{cell_at, mark_at};
 ghost use Rattle.naga_layout.specs.Types.{arrays_are_kept, kept_struct};
 ghost use Rattle.naga_tables.specs.Marks.{MarksAlso, is_marked};
@@ -289,10 +290,19 @@ fn bindings(alloc: Global, module: &Module) -> Result<Vec<bool>, AllocError>
     ensures { IfOk result (λ marks. TellsBindings «module».now marks.items) }
 {
     if module.keeps_bound_offsets {
-        bindings_of(alloc, &module.types)
+        let marks = all_bindings(alloc, module)?;
+        Ok(marks)
     } else {
         Ok(Vec::new(alloc))
     }
+}
+
+/// The same of any module.
+fn all_bindings(alloc: Global, module: &Module) -> Result<Vec<bool>, AllocError>
+    requires ordered { ItemsStandInOrder «module».now }
+    ensures { IfOk result (λ marks. TellBindings «module».now.types marks.items) }
+{
+    bindings_of(alloc, &module.types)
 }
 
 /// How a type is laid out, by its cell.

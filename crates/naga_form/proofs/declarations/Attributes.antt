@@ -381,9 +381,9 @@ gives_no_room (Numbered Align n ∷ more) is = absurd cc
 gives_no_room _ is = (refl, refl, refl, refl)
 
 -- a member's size is read as it was written
-pub size_is : (size : Option ℕ) (b : Option Binding) → size_read (member_attributes size b) ≡ size
-size_is None b = (gives_no_room (passing_attributes b) (passing_io b)).0
-size_is (Some n) b = refl
+pub member_size_is : (size : Option ℕ) (b : Option Binding) → size_read (member_attributes size b) ≡ size
+member_size_is None b = (gives_no_room (passing_attributes b) (passing_io b)).0
+member_size_is (Some n) b = refl
 
 abbrev pub SaysOfMember : (size : Option ℕ) → Option Binding → List Attribute → Type 0
 SaysOfMember size b list =

@@ -50,7 +50,7 @@ use Rattle.wgsl_layout.specs.declared.layouts.Placed.{Placed}
 use Rattle.wgsl_text.specs.Declarations.{Struct}
 use Rattle.wgsl_text.specs.Types.{TypeSpecifier, Named, of_one}
 use Rattle.wgsl_text.specs.Words.{IsIdentifier}
-use Rattle.naga_form.proofs.declarations.Attributes.{size_is}
+use Rattle.naga_form.proofs.declarations.Attributes.{member_size_is}
 use Rattle.naga_form.proofs.types.LayoutWords.{atomic_is_read, atomic_over, matrix_over, no_scalar}
 use Rattle.naga_form.proofs.types.LayoutWords.{scalar_is_read, vector_over}
 use Rattle.naga_form.specs.Attributes.{member_attributes}
@@ -100,7 +100,7 @@ module _ (m : Module) (names : NameMap) (t : TypeNames) (h : ℕ) (f : List ℕ 
   one_laid i k p w placed before have given =
       ap (option_map (λ l. record { layout = l; given = size_read (member_attributes (written_size m h i) k.binding) }))
       (reads k.ty p.layout (ltb-true k.ty h before) (placed_is m.keeps_bound_offsets (layout_in m) k p placed))
-      ∙ (ap (λ g. Some (record { layout = p.layout; given = g })) (size_is (written_size m h i) k.binding ∙ given)
+      ∙ (ap (λ g. Some (record { layout = p.layout; given = g })) (member_size_is (written_size m h i) k.binding ∙ given)
       ∙ ap (λ l. Some (record { layout = l; given = w.given })) (sym have))
 
   laid_from : (i : ℕ) (rest : List ir_member.StructMember) (ks : List Placed) (ws : List Member) →
