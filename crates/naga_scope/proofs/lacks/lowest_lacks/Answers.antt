@@ -8,5 +8,5 @@ pub returns-then-have_plain_forms : goal.returns-then-have_plain_forms
 returns-then-have_plain_forms c =
     let k = c.args.known.now in
     subst (λ (lacks : List (Option ℕ)). AreLowestLacks (has_form_in k) (expressions_of k) lacks)
-    (sym c.new.ensures)
+    (sym c.new.ensures.items)
     (no_lacks (has_form_in k) (expressions_of k) (c.have_plain_forms.ensures c.if-have_plain_forms.true))

@@ -14,7 +14,7 @@ returns-then-has_no_labels-clause-ok c =
     (trees_of c.args.statements.now) in
     subst (λ (labels : List (List ℕ)). NamesLabels c.args.namer.now [] labels c.args.namer.now
     (map string_bytes c.new-names.result.items)) (sym none)
-    (subst (NamesLabels c.args.namer.now [] [] c.args.namer.now) (sym (ap (map string_bytes) c.new-names.ensures))
+    (subst (NamesLabels c.args.namer.now [] [] c.args.namer.now) (sym (ap (map string_bytes) c.new-names.ensures.items))
     (names_none c.args.namer.now []))
 
 pub returns-in_err-name_statement-clause-err : goal.returns-in_err-name_statement-clause-err
