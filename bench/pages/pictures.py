@@ -69,6 +69,7 @@ LAYERS = [
         ("naga_inference", "inferred infos"),
         ("naga_builder", "builders"),
         ("operand_levels", "deep operands"),
+        ("matrix_inverses", "inverses as calls"),
     ]),
     ("the writer", CODE, [
         ("naga_wgsl_shared", "parts of texts"),

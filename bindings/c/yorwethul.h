@@ -45,9 +45,11 @@ enum yorwethul_status {
                                      * operands that stand too deep, and begins with the directives of the module's
                                      * filters of diagnostics */
 #define YORWETHUL_DECIMAL_FLOATS 4u /* floats are written, by the digits that Rust gives them, operators in constants too,
-                                     * names may end in digits, as pass2, and structs with bindings keep their offsets;
-                                     * else F32, F64 and F16 and such operators are refused, such a name is pass2_, and
-                                     * bindings have no sizes beside them */
+                                     * names may end in digits, as pass2, structs with bindings keep their offsets, and
+                                     * inverses of square matrices of f32 and f16 are calls of functions that stand in front
+                                     * of the module's, and are counted in positions and handles; else F32, F64, F16, such
+                                     * operators and inverses are refused, such a name is pass2_, and bindings have no sizes
+                                     * beside them */
 
 /* Each call gives a status. *needed is how many bytes its text has: what was asked for, or why it is not there, in
  * UTF-8, with no 0 after it. If out_length is enough for it, the text stands at the front of out. Else out is as it

@@ -23,9 +23,11 @@ impl Flags {
     pub const PORTABLE: Flags = Flags(crate::sys::PORTABLE);
 
     /// Floats are written, by the digits that Rust's formatting gives them, operators in constants
-    /// too, and names may end in digits, as `pass2`. Without this flag a module with a literal of a
-    /// float is refused, as `float literal`, one with such an operator as `operator in a constant`,
-    /// and such a name is `pass2_`.
+    /// too, names may end in digits, as `pass2`, and inverses of square matrices of `f32` and `f16`
+    /// are calls of functions that stand in front of the module's, and are counted in positions and
+    /// handles. Without this flag a module with a literal of a float is refused, as `float literal`,
+    /// one with such an operator as `operator in a constant`, one with an inverse too, and such a name
+    /// is `pass2_`.
     pub const DECIMAL_FLOATS: Flags = Flags(crate::sys::DECIMAL_FLOATS);
 
     /// No flag.

@@ -13,7 +13,7 @@ use Rattle.module_answers.specs.declared.within.NoOutcome.TheVariants as unwritt
 
 pub without_opening : (flags : WriterFlags) (bound : ℕ) (m : Module) (info : ModuleInfo) (reason : NoOutcome) →
     IsNotBegun flags m info reason → IsUnwritten flags bound m m info info reason
-without_opening flags bound m info (unwritten.NotAccepted fault) lacks = (lacks, refl, refl)
+without_opening flags bound m info (unwritten.NotAccepted fault) lacks = (lacks.0, refl, refl, lacks.1)
 without_opening flags bound m info unwritten.TooLong lacks = absurd lacks
 without_opening flags bound m info (unwritten.RuleName h) lacks = (lacks.0, lacks.1, lacks.2, refl, refl)
 without_opening flags bound m info (unwritten.Memory error) lacks = (refl, refl)

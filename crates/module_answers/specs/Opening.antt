@@ -2,7 +2,7 @@
 --
 -- Throughout, m is a module, info is what is known of it, flags say how it is written, h is the handle of
 -- a filter of diagnostics, and from is what the JSON holds by which positions are told.
-use Rattle.std.specs.Prelude.{◌≡◌, ⊤, ℕ, IsTrue, List, [], ◌++◌, codes, if◌then◌else◌}
+use Rattle.std.specs.Prelude.{◌≡◌, ⊤, ℕ, false, IsTrue, List, [], ◌++◌, codes, if◌then◌else◌}
 use Rattle.module_semantics.specs.acceptance.Accepted.{is_accepted}
 use Rattle.naga_acceptance.specs.FirstFaults.{IsFirstFault}
 use Rattle.naga_back.specs.Flags.{is_portable}
@@ -36,13 +36,15 @@ HasNoOpening flags m (directive.Sink error) = ⊤
 -- what is told where the rule of this filter has no name: that, of a module that is accepted, and of
 -- another one its first fault
 abbrev pub IsFaultOrRule : Module → ModuleInfo → (h : ℕ) → NoOutcome → Type 0
-IsFaultOrRule m info h (unwritten.NotAccepted fault) = IsFirstFault m info fault
+IsFaultOrRule m info h (unwritten.NotAccepted fault) =
+    IsFirstFault m info fault × (is_accepted m info ≡ false)
 IsFaultOrRule m info h (unwritten.RuleName named) = (named ≡ h) × IsTrue (is_accepted m info)
 IsFaultOrRule m info h _ = ⊥
 
 -- why no text of a module with this info was begun
 abbrev pub IsNotBegun : WriterFlags → Module → ModuleInfo → NoOutcome → Type 0
-IsNotBegun flags m info (unwritten.NotAccepted fault) = IsFirstFault m info fault
+IsNotBegun flags m info (unwritten.NotAccepted fault) =
+    IsFirstFault m info fault × (is_accepted m info ≡ false)
 IsNotBegun flags m info (unwritten.RuleName h) =
     IsTrue (is_portable flags) × LacksName m h × IsTrue (is_accepted m info)
 IsNotBegun flags m info (unwritten.Memory error) = ⊤

@@ -2,7 +2,7 @@
 --
 -- Throughout, given is the module before the call and m after it, old is what is known of it before
 -- the call and new after it, and bound is how many bytes its text may have.
-use Rattle.std.specs.Prelude.{◌≡◌, ◌<◌, ◌-◌, ◌⊎◌, ℕ, IsTrue, List, Option, Result, length}
+use Rattle.std.specs.Prelude.{◌≡◌, ◌<◌, ◌-◌, ◌⊎◌, ℕ, false, IsTrue, List, Option, Result, length}
 use Rattle.diagnostic_directives.specs.Directives.{LacksName}
 use Rattle.module_answers.specs.Counts.{IsReady}
 use Rattle.module_answers.specs.Opening.{opening}
@@ -46,7 +46,7 @@ pub record IsTooLong (flags : WriterFlags) (bound : ℕ) (given m : Module)
 abbrev pub IsUnwritten : WriterFlags → (bound : ℕ) → (given m : Module) →
     (old new : ModuleInfo) → NoOutcome → Type 0
 IsUnwritten flags bound given m old new (unwritten.NotAccepted fault) =
-    IsFirstFault given old fault × (m ≡ given) × (new ≡ old)
+    IsFirstFault given old fault × (m ≡ given) × (new ≡ old) × (is_accepted given old ≡ false)
 IsUnwritten flags bound given m old new unwritten.TooLong =
     IsTooLong flags bound given m old new
 IsUnwritten flags bound given m old new (unwritten.RuleName h) =

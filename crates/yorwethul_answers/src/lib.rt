@@ -5,6 +5,7 @@ mod answer;
 mod ending;
 mod explanation;
 mod files;
+mod inverses;
 mod lines;
 mod made;
 mod names;

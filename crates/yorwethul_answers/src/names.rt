@@ -1,5 +1,6 @@
 //! Which identifier of a text stands for which item of its module.
 
+use crate::inverses::call_inverses;
 use module_answers::{Shader, name_as_standard, names_text, names_value};
 use naga_wgsl_shared::Error;
 use serde_json::Value;
@@ -8,6 +9,9 @@ use yorwethul_input::Style;
 
 /// The names of a module in the text of this style, as JSON in one line.
 pub fn names_line(alloc: Global, style: Style, shader: &mut Shader) -> Result<String, Error> {
+    if !style.plain {
+        call_inverses(alloc, shader)?;
+    }
     name_as_standard(&mut shader.module, !style.plain);
     let mut line = names_text(alloc, &shader.module)?;
     line.push_str("\n")?;

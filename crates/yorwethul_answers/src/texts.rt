@@ -1,13 +1,16 @@
 //! Texts in the style that is asked for.
 
+use crate::inverses::call_inverses;
 use module_answers::{
     NoOutcome, Shader, WriteOutcome, flags_for, lost_buffers, write_decimal_within, write_within,
 };
+use naga_back::WriterFlags;
 use naga_wgsl_shared::Error;
 use std::alloc::{AllocError, Global};
 use yorwethul_input::Style;
 
-/// Writes the module in this style. Where that is not plain, its floats are made decimal first.
+/// Writes the module in this style. Where that is not plain, calls stand in the place of its inverses
+/// and its floats are made decimal first.
 pub fn write_in(
     alloc: Global,
     style: Style,
@@ -18,7 +21,25 @@ pub fn write_in(
     if style.plain {
         write_within(alloc, &shader.module, &mut shader.info, flags, bound)
     } else {
-        write_decimal_within(alloc, &mut shader.module, &mut shader.info, flags, bound)
+        write_standard(alloc, shader, flags, bound)
+    }
+}
+
+fn write_standard(
+    alloc: Global,
+    shader: &mut Shader,
+    flags: WriterFlags,
+    bound: usize,
+) -> Result<WriteOutcome<String>, NoOutcome> {
+    match call_inverses(alloc, shader) {
+        Ok(()) => {
+            write_decimal_within(alloc, &mut shader.module, &mut shader.info, flags, bound)
+        }
+        Err(error) => Ok(WriteOutcome {
+            answer: Err(error),
+            refusal: None,
+            sink: String::new(alloc),
+        }),
     }
 }
 

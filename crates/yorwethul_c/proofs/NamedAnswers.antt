@@ -1,9 +1,13 @@
 -- What is told where a module's names or its layouts are asked for, from what the steps say.
-use Rattle.std.proofs.Common.{◌≡◌, ◌≤◌, ◌∙◌, ℕ, [], List, None, Option, ap, inr, is_none, refl, subst, sym}
+use Rattle.std.proofs.Common.{◌≡◌, ◌≤◌, ◌∙◌, ℕ, [], List, None, Option, Some, ap, inr, is_none, refl}
+use Rattle.std.proofs.Common.{subst, sym}
+use Rattle.std.specs.Prelude.{IfSome}
 use Rattle.std.specs.declared.alloc.AllocError.{AllocError}
+use Rattle.naga_acceptance.specs.FirstFaults.{IsFirstFault}
 use Rattle.naga_acceptance.specs.declared.faults.Unaccepted.{Unaccepted}
 use Rattle.naga_info.specs.declared.info.ModuleInfo.{ModuleInfo}
 use Rattle.naga_ir.specs.declared.module.Module.{Module}
+use Rattle.module_positions.specs.Faults.{TellsFaultAt}
 use Rattle.module_positions.specs.declared.positions.JsonHolder.{JsonHolder}
 use Rattle.module_semantics.specs.Names.{module_names}
 use Rattle.module_semantics.specs.acceptance.Accepted.{is_accepted}
@@ -11,47 +15,56 @@ use Rattle.name_maps.specs.NameMaps.{map_text}
 use Rattle.naga_refusals.specs.declared.error.Error.{Error}
 use Rattle.naga_refusals.specs.declared.error.Error.TheVariants as error
 use Rattle.naga_wgsl_out.specs.ModuleRefusals.{IsNamesRefusal}
-use Rattle.yorwethul_c.specs.Answers.{Says, TellsOfReading, WasRead}
+use Rattle.yorwethul_c.specs.Answers.{Says, TellsOfFault, TellsOfGiving, WasGiven}
 use Rattle.yorwethul_c.specs.NamedItems.{AreNamed, AreUnnamed, IsToBeNamed, SaysOfUnnamed}
 use Rattle.yorwethul_c.specs.NamedItems.{TellsOfLayouts, TellsOfNames, named_under}
-use Rattle.yorwethul_c.proofs.Told.{lacking, said}
+use Rattle.yorwethul_c.proofs.Told.{faulty, lacking, read_as_given, said}
 use Rattle.yorwethul_c.specs.declared.status.Status.{Status}
 use Rattle.yorwethul_c.specs.declared.status.Status.TheVariants as status
 
--- what is said of reading is told
-pub unread_named : (json : List ℕ) (flags : ℕ) (told : Status) (text : List ℕ) →
-    TellsOfReading json told text → TellsOfNames json flags told text
-unread_named json flags status.NoModule text tells = tells
-unread_named json flags status.TooDeep text tells = tells
-unread_named json flags status.OutOfMemory text tells = tells
-unread_named json flags status.Done text tells = absurd tells
-unread_named json flags status.Refused text tells = absurd tells
-unread_named json flags status.NotAccepted text tells = inr tells
-unread_named json flags status.UnknownFlag text tells = absurd tells
-unread_named json flags status.TooLong text tells = absurd tells
+-- what is said of reading, and of calls in the place of inverses, is told
+pub ungiven_named : (json : List ℕ) (flags : ℕ) (told : Status) (text : List ℕ) →
+    TellsOfGiving json flags told text → TellsOfNames json flags told text
+ungiven_named json flags status.NoModule text tells = tells
+ungiven_named json flags status.TooDeep text tells = tells
+ungiven_named json flags status.OutOfMemory text tells = tells
+ungiven_named json flags status.Done text tells = absurd tells
+ungiven_named json flags status.Refused text tells = inr tells
+ungiven_named json flags status.NotAccepted text tells = inr tells
+ungiven_named json flags status.UnknownFlag text tells = absurd tells
+ungiven_named json flags status.TooLong text tells = absurd tells
 
 -- so it is of layouts
-pub unread_laid_out : (json : List ℕ) (flags : ℕ) (told : Status) (text : List ℕ) →
-    TellsOfReading json told text → TellsOfLayouts json flags told text
-unread_laid_out json flags status.NoModule text tells = tells
-unread_laid_out json flags status.TooDeep text tells = tells
-unread_laid_out json flags status.OutOfMemory text tells = tells
-unread_laid_out json flags status.Done text tells = absurd tells
-unread_laid_out json flags status.Refused text tells = absurd tells
-unread_laid_out json flags status.NotAccepted text tells = inr tells
-unread_laid_out json flags status.UnknownFlag text tells = absurd tells
-unread_laid_out json flags status.TooLong text tells = absurd tells
+pub ungiven_laid_out : (json : List ℕ) (flags : ℕ) (told : Status) (text : List ℕ) →
+    TellsOfGiving json flags told text → TellsOfLayouts json flags told text
+ungiven_laid_out json flags status.NoModule text tells = tells
+ungiven_laid_out json flags status.TooDeep text tells = tells
+ungiven_laid_out json flags status.OutOfMemory text tells = tells
+ungiven_laid_out json flags status.Done text tells = absurd tells
+ungiven_laid_out json flags status.Refused text tells = inr tells
+ungiven_laid_out json flags status.NotAccepted text tells = inr tells
+ungiven_laid_out json flags status.UnknownFlag text tells = absurd tells
+ungiven_laid_out json flags status.TooLong text tells = absurd tells
+
+-- the fault of one that is given
+pub faulty_given : (json : List ℕ) (flags : ℕ) (from : JsonHolder) (m : Module) (known : ModuleInfo)
+    (found : Option Unaccepted) (fault : Unaccepted) (text : List ℕ) → WasGiven json flags from m known →
+    found ≡ Some fault → is_none found ≡ is_accepted m known → IfSome found (IsFirstFault m known) →
+    TellsFaultAt from m known fault text → TellsOfFault json text
+faulty_given json flags from m known found fault text was_given is accepts fails line =
+    faulty json from m known found fault text
+    (read_as_given json flags from m known was_given (sym accepts ∙ ap is_none is)) is fails line
 
 -- an accepted module, which is named under these flags
 abbrev pub to_be_named : (json : List ℕ) (flags : ℕ) (from : JsonHolder) (m : Module) (read : ModuleInfo)
-    (found : Option Unaccepted) → flags ≤ 7 → WasRead json from m read →
+    (found : Option Unaccepted) → flags ≤ 7 → WasGiven json flags from m read →
     found ≡ None → is_none found ≡ is_accepted m read → IsToBeNamed json flags
-to_be_named json flags from m read found known was_read is accepts = record {
+to_be_named json flags from m read found known was_given is accepts = record {
   flags_are_known = known;
   from = from;
   m = m;
-  read = read;
-  was_read = was_read;
+  known = read;
+  was_given = was_given;
   accepted = sym accepts ∙ ap is_none is;
 }
 

@@ -25,6 +25,9 @@ use Rattle.module_answers.specs.Counts.{RaisedFor}
 use Rattle.module_answers.specs.Opening.{OpensWithNames, TellsRuleAt, opening}
 use Rattle.module_answers.specs.Shaders.{IsInfoOf, TellsUnasked, TellsUntypedAt, holder_of}
 use Rattle.module_answers.specs.declared.shaders.Shader.{Shader}
+use Rattle.matrix_inverses.specs.Replaced.{FailsReplacing, Replaces}
+use Rattle.matrix_inverses.specs.declared.errors.InverseError.{InverseError}
+use Rattle.matrix_inverses.specs.declared.errors.InverseError.TheVariants as inverse
 use Rattle.module_limits.specs.Nesting.{nested_past}
 use Rattle.naga_json.specs.Modules.{seen_given, text_given_said}
 use Rattle.naga_json.specs.Said.{Gives, IsRefusal as IsReadRefusal}
@@ -41,6 +44,7 @@ use Rattle.module_answers.specs.declared.within.NoOutcome.TheVariants as unwritt
 use Rattle.yorwethul_c.specs.Answers.{HasCounts, IsAccepted, IsGivenIn, IsRefused, IsTooLong, SaysNoModule}
 use Rattle.yorwethul_c.specs.Answers.{WasWritten, LacksMemory, Says, SaysOfError, SaysOfUnasked}
 use Rattle.yorwethul_c.specs.Answers.{SaysOfUnwritten, SaysOfWritten, SaysThat, TellsAnyRefusal}
+use Rattle.yorwethul_c.specs.Answers.{IsGivenIf, SaysOfUngiven, TellsOfGiving, WasGiven}
 use Rattle.yorwethul_c.specs.Answers.{TellsOfChecking, TellsOfFault, WasRead}
 use Rattle.yorwethul_c.specs.Answers.{deepest_nesting, longest_text, TellsOfReading}
 use Rattle.yorwethul_c.specs.Answers.{TellsOfWriting, IsAsAsked, WasAsked, asks_decimal_floats}
@@ -99,16 +103,27 @@ pub no_module : (json : List ℕ) (told : Status) (text : List ℕ) → SaysNoMo
     Says status.NoModule told text → TellsOfReading json told text
 no_module json told text none says = said (TellsOfReading json) status.NoModule told text none refl says
 
-pub unread_written : (json : List ℕ) (flags : ℕ) (told : Status) (text : List ℕ) → TellsOfReading json told text →
-    TellsOfWriting json flags told text
-unread_written json flags status.NoModule text tells = tells
-unread_written json flags status.TooDeep text tells = tells
-unread_written json flags status.OutOfMemory text tells = tells
-unread_written json flags status.Done text tells = absurd tells
-unread_written json flags status.Refused text tells = absurd tells
-unread_written json flags status.NotAccepted text tells = inr tells
-unread_written json flags status.UnknownFlag text tells = absurd tells
-unread_written json flags status.TooLong text tells = absurd tells
+pub unread_given : (json : List ℕ) (flags : ℕ) (told : Status) (text : List ℕ) → TellsOfReading json told text →
+    TellsOfGiving json flags told text
+unread_given json flags status.NoModule text tells = tells
+unread_given json flags status.TooDeep text tells = tells
+unread_given json flags status.OutOfMemory text tells = tells
+unread_given json flags status.Done text tells = tells
+unread_given json flags status.Refused text tells = absurd tells
+unread_given json flags status.NotAccepted text tells = tells
+unread_given json flags status.UnknownFlag text tells = tells
+unread_given json flags status.TooLong text tells = tells
+
+pub ungiven_written : (json : List ℕ) (flags : ℕ) (told : Status) (text : List ℕ) →
+    TellsOfGiving json flags told text → TellsOfWriting json flags told text
+ungiven_written json flags status.NoModule text tells = tells
+ungiven_written json flags status.TooDeep text tells = tells
+ungiven_written json flags status.OutOfMemory text tells = tells
+ungiven_written json flags status.Done text tells = absurd tells
+ungiven_written json flags status.Refused text tells = inr (inr tells)
+ungiven_written json flags status.NotAccepted text tells = inr tells
+ungiven_written json flags status.UnknownFlag text tells = absurd tells
+ungiven_written json flags status.TooLong text tells = absurd tells
 
 pub unread_checked : (json : List ℕ) (told : Status) (text : List ℕ) → TellsOfReading json told text →
     TellsOfChecking json told text
@@ -153,6 +168,63 @@ not_asked json given (unasked.Untyped untyped) told text stands is says =
 not_asked json given (unasked.Memory error) told text stands is says =
     lacking (TellsOfReading json) told text refl says
 
+-- ---- how it is given
+
+-- without the flag as it was read
+pub given_as_read : (json : List ℕ) (flags : ℕ) (from : JsonHolder) (m : Module) (read : ModuleInfo) → flags < 4 →
+    WasRead json from m read → WasGiven json flags from m read
+given_as_read json flags from m read less was_read = record {
+  m = m;
+  read = read;
+  was_read = was_read;
+  is_given = subst (λ asked. IsGivenIf asked m read m read) (sym (lt-leb 4 flags less)) (refl, refl);
+}
+
+-- with it, calls stand in the place of its inverses
+pub given_with_calls : (json : List ℕ) (flags : ℕ) (from : JsonHolder) (m given : Module) (read known : ModuleInfo) →
+    4 ≤ flags → WasRead json from m read → Replaces m read given known → WasGiven json flags from given known
+given_with_calls json flags from m given read known more was_read replaced = record {
+  m = m;
+  read = read;
+  was_read = was_read;
+  is_given = subst (λ asked. IsGivenIf asked m read given known) (sym (le-leb 4 flags more)) replaced;
+}
+
+-- no calls can stand there, or memory was refused
+pub ungiven_so : (json : List ℕ) (flags : ℕ) (from : JsonHolder) (m called : Module) (read : ModuleInfo)
+    (e : InverseError) (told : Status) (text : List ℕ) → 4 ≤ flags → WasRead json from m read →
+    FailsReplacing m read called e → SaysOfUngiven e told text → TellsOfGiving json flags told text
+ungiven_so json flags from m called read (inverse.Memory error) told text more was_read fails says =
+    lacking (TellsOfGiving json flags) told text refl says
+ungiven_so json flags from m called read (inverse.Unaccepted error) told text more was_read fails says =
+    said (TellsOfGiving json flags) status.Refused told text
+    (record {
+      are_decimal = le-leb 4 flags more;
+      from = from;
+      m = m;
+      read = read;
+      was_read = was_read;
+      called = called;
+      error = error;
+      lost = fails;
+    }) refl says
+
+-- one that is not accepted is as it was read
+as_read : (asked : Bool) (m given : Module) (read known : ModuleInfo) → IsGivenIf asked m read given known →
+    is_accepted given known ≡ false → (given ≡ m) × (known ≡ read)
+as_read false m given read known is fails = is
+as_read true m given read known (inl kept) fails = (kept.1, kept.2)
+as_read true m given read known (inr calling) fails =
+    (let wrong : true ≡ false = sym calling.accepted ∙ fails in absurd cc)
+
+pub read_as_given : (json : List ℕ) (flags : ℕ) (from : JsonHolder) (given : Module) (known : ModuleInfo) →
+    WasGiven json flags from given known → is_accepted given known ≡ false → WasRead json from given known
+read_as_given json flags from given known was_given fails =
+    let same =
+    as_read (asks_decimal_floats flags) was_given.m given was_given.read known was_given.is_given fails in
+    subst (λ m. WasRead json from m known) (sym same.0)
+    (subst (λ read. WasRead json from was_given.m read) (sym same.1) was_given.was_read)
+
 -- ---- what was asked of the module
 
 pub faulty : (json : List ℕ) (from : JsonHolder) (m : Module) (read : ModuleInfo) (found : Option Unaccepted)
@@ -172,10 +244,10 @@ faulty json from m read found fault text was_read is fails line =
 
 -- what was asked of the writer
 abbrev was_asked : (json : List ℕ) (flags : ℕ) (writer : WriterFlags) (from : JsonHolder) (given m : Module)
-    (read info : ModuleInfo) → flags ≤ 7 → bits_of writer ≡ flags % 4 → WasRead json from given read →
+    (read info : ModuleInfo) → flags ≤ 7 → bits_of writer ≡ flags % 4 → WasGiven json flags from given read →
     IsAsAsked (asks_decimal_floats flags) given m →
     IsTrue (is_accepted given read) → RaisedFor writer m read info → WasAsked json flags
-was_asked json flags writer from given m read info known bits was_read asked accepted raised = record {
+was_asked json flags writer from given m read info known bits was_given asked accepted raised = record {
   flags_are_known = known;
   writer = writer;
   has_bits = bits;
@@ -183,8 +255,8 @@ was_asked json flags writer from given m read info known bits was_read asked acc
   given = given;
   m = m;
   is_as_asked = asked;
-  read = read;
-  was_read = was_read;
+  known = read;
+  was_given = was_given;
   info = info;
   accepted = accepted;
   raised = raised;
@@ -193,46 +265,46 @@ was_asked json flags writer from given m read info known bits was_read asked acc
 -- the writer was not asked for it, or was stopped
 pub not_written : (json : List ℕ) (flags : ℕ) (writer : WriterFlags) (from : JsonHolder) (given m : Module)
     (read info : ModuleInfo) (reason : NoOutcome) (told : Status) (text : List ℕ) →
-    flags ≤ 7 → bits_of writer ≡ flags % 4 → WasRead json from given read →
+    flags ≤ 7 → bits_of writer ≡ flags % 4 → WasGiven json flags from given read →
     (reason ≡ unwritten.TooLong → IsAsAsked (asks_decimal_floats flags) given m) →
     IsUnwritten writer longest_text given m read info reason →
     SaysOfUnwritten from m info reason told text → TellsOfWriting json flags told text
-not_written json flags writer from given m read info (unwritten.NotAccepted fault) told text known bits was_read asked
+not_written json flags writer from given m read info (unwritten.NotAccepted fault) told text known bits was_given asked
     is says =
     said_that (TellsOfWriting json flags) (TellsFaultAt from m info fault) status.NotAccepted told text
     (λ line. inl (record {
       from = from;
       m = given;
       read = read;
-      was_read = was_read;
+      was_read = read_as_given json flags from given read was_given is.3;
       fault = fault;
       fails = is.0;
       line = subst (λ m. TellsFaultAt from m read fault text) is.1
           (subst (λ read. TellsFaultAt from m read fault text) is.2 line);
     })) refl says
-not_written json flags writer from given m read info unwritten.TooLong told text known bits was_read asked is says =
+not_written json flags writer from given m read info unwritten.TooLong told text known bits was_given asked is says =
     let asking =
-    was_asked json flags writer from given m read info known bits was_read (asked refl) is.accepted is.counted.raised in
+    was_asked json flags writer from given m read info known bits was_given (asked refl) is.accepted is.counted.raised in
     let long : IsTooLong json flags = record { asked = asking; past = is.past } in
     said (TellsOfWriting json flags) status.TooLong told text long refl says
-not_written json flags writer from given m read info (unwritten.RuleName h) told text known bits was_read asked is
+not_written json flags writer from given m read info (unwritten.RuleName h) told text known bits was_given asked is
     says =
     said_that (TellsOfWriting json flags) (TellsRuleAt from h) status.Refused told text
-    (λ line. inr (record {
+    (λ line. inr (inl (record {
       flags_are_known = known;
       writer = writer;
       has_bits = bits;
       portable = is.0;
       from = from;
       m = given;
-      read = read;
-      was_read = was_read;
+      known = read;
+      was_given = was_given;
       accepted = is.2;
       filter = h;
       lacks = is.1;
       line = line;
-    })) refl says
-not_written json flags writer from given m read info (unwritten.Memory error) told text known bits was_read asked is
+    }))) refl says
+not_written json flags writer from given m read info (unwritten.Memory error) told text known bits was_given asked is
     says = lacking (TellsOfWriting json flags) told text refl says
 
 pub accepted_by : (json : List ℕ) (from : JsonHolder) (m : Module) (read : ModuleInfo) (found : Option Unaccepted) →
@@ -294,11 +366,11 @@ with_decimal_floats flags given m more decimal =
 -- what the writer did when asked
 module _ (json : List ℕ) (flags : ℕ) (writer : WriterFlags) (from : JsonHolder) (given m : Module)
     (read info : ModuleInfo) (content : List ℕ) (known : flags ≤ 7) (bits : bits_of writer ≡ flags % 4)
-    (was_read : WasRead json from given read) (asked : IsAsAsked (asks_decimal_floats flags) given m)
+    (was_given : WasGiven json flags from given read) (asked : IsAsAsked (asks_decimal_floats flags) given m)
     (accepted : IsTrue (is_accepted given read))
     (raised : RaisedFor writer m read info) (named : OpensWithNames writer given) where
   abbrev asking : WasAsked json flags
-  asking = was_asked json flags writer from given m read info known bits was_read asked accepted raised
+  asking = was_asked json flags writer from given m read info known bits was_given asked accepted raised
 
   -- an error that tells of the module is a refusal, which is told beside it
   refusing : (e : Error) (refusal : Option Refusal) (text : List ℕ) → UnlessWanting (Err e) (HasCounts asking) →

@@ -24,6 +24,10 @@ use Rattle.module_answers.specs.Shaders as shaders
 use Rattle.naga_wgsl_out.specs.Unwritable.{TellsRefusal}
 use Rattle.module_answers.specs.declared.shaders.Unasked.{Unasked}
 use Rattle.module_answers.specs.declared.shaders.Unasked.TheVariants as unasked
+use Rattle.matrix_inverses.specs.Replaced.{IsLost, Replaces}
+use Rattle.matrix_inverses.specs.declared.errors.InverseError.{InverseError}
+use Rattle.matrix_inverses.specs.declared.errors.InverseError.TheVariants.{Memory, Unaccepted}
+use Rattle.naga_inference.specs.declared.errors.InferenceError.{InferenceError}
 use Rattle.naga_inference.specs.declared.errors.Untyped.{Untyped}
 use Rattle.module_positions.specs.declared.positions.JsonHolder.{JsonHolder}
 use Rattle.module_answers.specs.Within.{IsPastAfter}
@@ -121,8 +125,24 @@ pub record WasRead (json : List ℕ) (from : JsonHolder) (m : Module) (read : Mo
   pub nested : nested_past deepest_nesting m ≡ None
   pub known : IsInfoOf m given.info read
 
+-- Where decimal floats are asked for, calls stand in the place of the inverses that the module asks for,
+-- if they can; else it is given as it was read.
+abbrev pub IsGivenIf : (are_decimal : Bool) → (m : Module) → (read : ModuleInfo) → (given : Module) →
+    (known : ModuleInfo) → Type 0
+IsGivenIf true m read given known = Replaces m read given known
+IsGivenIf false m read given known = (given ≡ m) × (known ≡ read)
+
+-- A module was read, and under these flags it is given so, with what is known of it.
+pub record WasGiven (json : List ℕ) (flags : ℕ) (from : JsonHolder) (given : Module)
+    (known : ModuleInfo) : Type 0 where
+  pub m : Module
+  pub read : ModuleInfo
+  pub was_read : WasRead json from m read
+  pub is_given : IsGivenIf (asks_decimal_floats flags) m read given known
+
 -- The writer was asked under these flags for the text of m, which is the given module, or that where
--- names keep their digits and floats are decimal. The given one is accepted.
+-- names keep their digits and floats are decimal. The given one is accepted, and known is what is known
+-- of it.
 pub record WasAsked (json : List ℕ) (flags : ℕ) : Type 0 where
   pub flags_are_known : flags ≤ 7
   pub writer : WriterFlags
@@ -131,16 +151,16 @@ pub record WasAsked (json : List ℕ) (flags : ℕ) : Type 0 where
   pub given : Module
   pub m : Module
   pub is_as_asked : IsAsAsked (asks_decimal_floats flags) given m
-  pub read : ModuleInfo
-  pub was_read : WasRead json from given read
+  pub known : ModuleInfo
+  pub was_given : WasGiven json flags from given known
   pub info : ModuleInfo
-  pub accepted : IsTrue (is_accepted given read)
-  pub raised : RaisedFor writer m read info
+  pub accepted : IsTrue (is_accepted given known)
+  pub raised : RaisedFor writer m known info
 
 -- All counts are those that were asked for: of uses, and for standard compilers raised where an operand
 -- stands too deep.
 abbrev pub HasCounts : {json : List ℕ} {flags : ℕ} → WasAsked json flags → Type 0
-HasCounts asked = CountsFor asked.writer asked.m asked.read asked.info
+HasCounts asked = CountsFor asked.writer asked.m asked.known asked.info
 
 -- the directives that stand in front of the text that was asked for
 abbrev pub asked_opening : {json : List ℕ} {flags : ℕ} → WasAsked json flags → List ℕ
@@ -190,12 +210,24 @@ pub record LacksRuleName (json : List ℕ) (flags : ℕ) (text : List ℕ) : Typ
   pub portable : IsTrue (is_portable writer)
   pub from : JsonHolder
   pub m : Module
-  pub read : ModuleInfo
-  pub was_read : WasRead json from m read
-  pub accepted : IsTrue (is_accepted m read)
+  pub known : ModuleInfo
+  pub was_given : WasGiven json flags from m known
+  pub accepted : IsTrue (is_accepted m known)
   pub filter : ℕ
   pub lacks : LacksName m filter
   pub line : TellsRuleAt from filter text
+
+-- Decimal floats are asked for, and a module was read that is accepted. With calls in the place of its
+-- inverses no info that follows the rules of types is accepted.
+pub record LosesInverses (json : List ℕ) (flags : ℕ) : Type 0 where
+  pub are_decimal : IsTrue (asks_decimal_floats flags)
+  pub from : JsonHolder
+  pub m : Module
+  pub read : ModuleInfo
+  pub was_read : WasRead json from m read
+  pub called : Module
+  pub error : InferenceError
+  pub lost : IsLost m read called error
 
 -- A module was read of which this is nested too deep.
 pub record IsTooDeep (json : List ℕ) : Type 0 where
@@ -251,7 +283,8 @@ TellsOfFault json text = IsNotAccepted json text ⊎ IsUntyped json text
 
 -- of a module that is refused
 abbrev pub TellsOfRefusing : (json : List ℕ) (flags : ℕ) → (text : List ℕ) → Type 0
-TellsOfRefusing json flags text = IsRefused json flags text ⊎ LacksRuleName json flags text
+TellsOfRefusing json flags text =
+    IsRefused json flags text ⊎ (LacksRuleName json flags text ⊎ LosesInverses json flags)
 
 -- of a module that is to be written
 abbrev pub TellsOfWriting : (json : List ℕ) (flags : ℕ) → Status → (text : List ℕ) → Type 0
@@ -267,6 +300,11 @@ abbrev pub TellsOfChecking : (json : List ℕ) → Status → (text : List ℕ) 
 TellsOfChecking json status.Done text = IsAccepted json × (text ≡ [])
 TellsOfChecking json status.NotAccepted text = TellsOfFault json text
 TellsOfChecking json told text = TellsOfReading json told text
+
+-- of one that is not given as these flags ask
+abbrev pub TellsOfGiving : (json : List ℕ) (flags : ℕ) → Status → (text : List ℕ) → Type 0
+TellsOfGiving json flags status.Refused text = LosesInverses json flags
+TellsOfGiving json flags told text = TellsOfReading json told text
 
 -- ---- steps on the way
 
@@ -295,6 +333,11 @@ SaysOfUnasked from m (unasked.TooDeep nested) told text = Says status.TooDeep to
 SaysOfUnasked from m (unasked.Untyped untyped) told text =
     SaysThat (TellsUntypedAt from m untyped) status.NotAccepted told text
 SaysOfUnasked from m (unasked.Memory error) told text = LacksMemory told text
+
+-- what is told where no calls stand in the place of inverses
+abbrev pub SaysOfUngiven : InverseError → Status → (text : List ℕ) → Type 0
+SaysOfUngiven (Memory error) told text = LacksMemory told text
+SaysOfUngiven (Unaccepted error) told text = Says status.Refused told text
 
 -- what is told where the writer was not asked or was stopped
 abbrev pub SaysOfUnwritten : JsonHolder → Module → ModuleInfo → NoOutcome → Status →

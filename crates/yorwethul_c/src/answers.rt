@@ -11,11 +11,13 @@ ghost use Rattle.naga_json.specs.Said.{IsRefusal};
 ghost use Rattle.yorwethul_c.specs.Answers.{IsGivenIn, SaysNoModule, deepest_nesting};
 ghost use Rattle.yorwethul_c.specs.Answers.{LacksMemory, Says, SaysOfError, SaysOfUnasked};
 ghost use Rattle.yorwethul_c.specs.Answers.{SaysOfUnwritten, SaysOfWritten, SaysThat};
-ghost use Rattle.yorwethul_c.specs.Answers.{TellsAnyRefusal, TellsOfChecking, TellsOfReading};
-ghost use Rattle.yorwethul_c.specs.Answers.{TellsOfWriting, WasRead};
+ghost use Rattle.yorwethul_c.specs.Answers.{SaysOfUngiven, TellsAnyRefusal, TellsOfChecking};
+ghost use Rattle.yorwethul_c.specs.Answers.{TellsOfGiving, TellsOfReading, TellsOfWriting, WasGiven};
+ghost use Rattle.yorwethul_c.specs.Answers.{WasRead};
 
 use crate::status::{Status, status_of};
 use bitflags::Flags;
+use matrix_inverses::{InverseError, replace_inverses};
 use module_answers::{
     NoOutcome, Shader, Unasked, WriteOutcome, holder_of, info_within, refusal_line, rule_name_line,
     untyped_line, write_decimal_within, write_within,
@@ -54,14 +56,14 @@ pub struct Answer {
 }
 
 /// Writes the module that the JSON holds.
-#[tactic(auto, using(crate::proofs::Told::unread_written))]
+#[tactic(auto, using(crate::proofs::Told::ungiven_written))]
 pub fn written(alloc: Global, json: &[u8], flags: u32) -> Answer
     ensures { TellsOfWriting json.now flags result.status (string_bytes result.text) }
 {
     if flags > ALL_FLAGS {
         return told(alloc, Status::UnknownFlag, "a bit is set that no flag has");
     }
-    match shader_in(alloc, json) {
+    match shader_for(alloc, json, flags) {
         Ok(mut shader) => written_shader(alloc, &mut shader, flags),
         Err(answer) => answer,
     }
@@ -93,6 +95,53 @@ pub(crate) fn shader_in(alloc: Global, json: &[u8]) -> Result<Shader, Answer>
     match read_given(alloc, text) {
         Ok(given) => shader_of(alloc, given),
         Err(error) => Err(unread(alloc, json, error)),
+    }
+}
+
+/// Reads the module and, where decimal floats are asked for, puts calls in the place of its inverses; or
+/// tells why nothing more is asked of it.
+pub(crate) fn shader_for(alloc: Global, json: &[u8], flags: u32) -> Result<Shader, Answer>
+    requires known { flags ≤ 7 }
+    ensures given { IfOk result
+        (λ shader. WasGiven json.now flags shader.holder shader.module shader.info) }
+    ensures ungiven { IfErr result
+        (λ a. TellsOfGiving json.now flags a.status (string_bytes a.text)) }
+{
+    match shader_in(alloc, json) {
+        Ok(shader) => given_as_asked(alloc, shader, flags),
+        Err(answer) => Err(answer),
+    }
+}
+
+/// The module as it is given under these flags.
+fn given_as_asked(alloc: Global, mut shader: Shader, flags: u32) -> Result<Shader, Answer>
+    ensures given { (json : List ℕ) → WasRead json shader.holder shader.module shader.info →
+        IfOk result (λ s. WasGiven json flags s.holder s.module s.info) }
+    ensures ungiven { (json : List ℕ) → WasRead json shader.holder shader.module shader.info →
+        IfErr result (λ a. TellsOfGiving json flags a.status (string_bytes a.text)) }
+{
+    if flags < DECIMAL_FLOATS {
+        return Ok(shader);
+    }
+    match replace_inverses(alloc, &mut shader.module, &mut shader.info) {
+        Ok(()) => Ok(shader),
+        Err(error) => Err(ungiven(alloc, &error)),
+    }
+}
+
+/// Tells why no calls stand in the place of inverses.
+fn ungiven(alloc: Global, error: &InverseError) -> Answer
+    ensures { SaysOfUngiven error.now result.status (string_bytes result.text) }
+{
+    match error {
+        InverseError::Memory(_) => out_of_memory(alloc),
+        InverseError::Unaccepted(_) => {
+            told(
+                alloc,
+                Status::Refused,
+                "no calls can stand for its inverses",
+            )
+        }
     }
 }
 
@@ -153,7 +202,7 @@ fn unread(alloc: Global, json: &[u8], error: ReadError) -> Answer
 fn written_shader(alloc: Global, shader: &mut Shader, flags: u32) -> Answer
     requires known { flags ≤ 7 }
     ensures { (json : List ℕ) →
-        WasRead json shader.old.holder shader.old.module shader.old.info →
+        WasGiven json flags shader.old.holder shader.old.module shader.old.info →
         TellsOfWriting json flags result.status (string_bytes result.text) }
 {
     if flags < DECIMAL_FLOATS {
@@ -166,7 +215,7 @@ fn written_shader(alloc: Global, shader: &mut Shader, flags: u32) -> Answer
 fn written_as_given(alloc: Global, shader: &mut Shader, flags: u32) -> Answer
     requires known { flags < 4 }
     ensures { (json : List ℕ) →
-        WasRead json shader.old.holder shader.old.module shader.old.info →
+        WasGiven json flags shader.old.holder shader.old.module shader.old.info →
         TellsOfWriting json flags result.status (string_bytes result.text) }
 {
     match write_within(
@@ -185,7 +234,7 @@ fn written_with_decimals(alloc: Global, shader: &mut Shader, flags: u32) -> Answ
     requires decimal { 4 ≤ flags }
     requires known { flags ≤ 7 }
     ensures { (json : List ℕ) →
-        WasRead json shader.old.holder shader.old.module shader.old.info →
+        WasGiven json flags shader.old.holder shader.old.module shader.old.info →
         TellsOfWriting json flags result.status (string_bytes result.text) }
 {
     match write_decimal_within(

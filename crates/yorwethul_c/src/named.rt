@@ -2,12 +2,12 @@
 //! status and a text.
 
 ghost use Rattle.std.specs.Prelude.{◌≡◌, ◌≤◌, ℕ, List, string_bytes};
-ghost use Rattle.yorwethul_c.specs.Answers.{WasRead};
+ghost use Rattle.yorwethul_c.specs.Answers.{WasGiven};
 ghost use Rattle.yorwethul_c.specs.NamedItems.{SaysOfUnnamed, TellsOfLayouts, TellsOfNames};
 ghost use Rattle.yorwethul_c.specs.NamedItems.{named_under};
 
 use crate::answers::{
-    ALL_FLAGS, Answer, DECIMAL_FLOATS, not_accepted, out_of_memory, shader_in, told,
+    ALL_FLAGS, Answer, DECIMAL_FLOATS, not_accepted, out_of_memory, shader_for, told,
 };
 use crate::status::Status;
 use module_answers::{Shader, layout_table, lost_text, name_as_standard, names_text};
@@ -18,14 +18,14 @@ use std::alloc::Global;
 
 /// Tells which identifier stands for which item of the module that the JSON holds, in the text that it has
 /// under these flags.
-#[tactic(auto, using(crate::proofs::NamedAnswers::unread_named))]
+#[tactic(auto, using(crate::proofs::NamedAnswers::ungiven_named))]
 pub fn named(alloc: Global, json: &[u8], flags: u32) -> Answer
     ensures { TellsOfNames json.now flags result.status (string_bytes result.text) }
 {
     if flags > ALL_FLAGS {
         return told(alloc, Status::UnknownFlag, "a bit is set that no flag has");
     }
-    match shader_in(alloc, json) {
+    match shader_for(alloc, json, flags) {
         Ok(mut shader) => named_shader(alloc, &mut shader, flags),
         Err(answer) => answer,
     }
@@ -33,14 +33,14 @@ pub fn named(alloc: Global, json: &[u8], flags: u32) -> Answer
 
 /// Tells where the members of the structs stand of the module that the JSON holds, under the names that its
 /// text has under these flags.
-#[tactic(auto, using(crate::proofs::NamedAnswers::unread_laid_out))]
+#[tactic(auto, using(crate::proofs::NamedAnswers::ungiven_laid_out))]
 pub fn laid_out(alloc: Global, json: &[u8], flags: u32) -> Answer
     ensures { TellsOfLayouts json.now flags result.status (string_bytes result.text) }
 {
     if flags > ALL_FLAGS {
         return told(alloc, Status::UnknownFlag, "a bit is set that no flag has");
     }
-    match shader_in(alloc, json) {
+    match shader_for(alloc, json, flags) {
         Ok(mut shader) => laid_out_shader(alloc, &mut shader, flags),
         Err(answer) => answer,
     }
@@ -64,7 +64,7 @@ pub fn lost(alloc: Global, json: &[u8], flags: u32) -> Answer
 fn named_shader(alloc: Global, shader: &mut Shader, flags: u32) -> Answer
     requires known { flags ≤ 7 }
     ensures { (json : List ℕ) →
-        WasRead json shader.old.holder shader.old.module shader.old.info →
+        WasGiven json flags shader.old.holder shader.old.module shader.old.info →
         TellsOfNames json flags result.status (string_bytes result.text) }
 {
     match unaccepted(&shader.module, &shader.info) {
@@ -85,7 +85,7 @@ fn named_shader(alloc: Global, shader: &mut Shader, flags: u32) -> Answer
 fn laid_out_shader(alloc: Global, shader: &mut Shader, flags: u32) -> Answer
     requires known { flags ≤ 7 }
     ensures { (json : List ℕ) →
-        WasRead json shader.old.holder shader.old.module shader.old.info →
+        WasGiven json flags shader.old.holder shader.old.module shader.old.info →
         TellsOfLayouts json flags result.status (string_bytes result.text) }
 {
     match unaccepted(&shader.module, &shader.info) {

@@ -183,10 +183,11 @@ blur.layout.txt, with --explain blur.explain.txt and with --lines blur.answers.j
 standard input is stdin.wgsl. Where nothing would be printed, no file is made or changed.
 
 Literals of floats are written by the digits that Rust's formatting gives, operators in constants
-are written too, names may end in digits, as pass2, and the text has what standard compilers ask
-for, as enable subgroups, and begins with directives for the module's filters of diagnostics. With
---plain none of this is so, as by the library without flags: a literal of a float that the module
-holds as its bits and an operator in a constant are then refused, and pass2 is written pass2_.
+are written too, names may end in digits, as pass2, inverses of square matrices of f32 and f16 are
+calls of functions in front of the module's, and the text has what standard compilers ask for, as
+enable subgroups, and begins with directives for the module's filters of diagnostics. With --plain
+none of this is so, as by the library without flags: a literal of a float that the module holds as
+its bits, an operator in a constant and an inverse are then refused, and pass2 is written pass2_.
 
 With --layout each struct that the text declares has a line, and so has each of its members, with
 its offset and what WGSL gives to its type, in bytes, or why the member can't stay where it is.

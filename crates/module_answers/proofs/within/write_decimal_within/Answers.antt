@@ -98,6 +98,7 @@ returns-in-Err-clause-unwritten c =
       subst (λ r. IfErr r (IsFirstFault c.args.«module».now c.args.info.now)) c.in-Err.is c.write_decimal.ensures.fault,
       untouched.0,
       untouched.1,
+      sym c.write_decimal.ensures.accepted ∙ ap is_ok c.in-Err.is,
     )
 
 pub returns-in_err-opening-clause-unwritten : goal.returns-in_err-opening-clause-unwritten

@@ -73,6 +73,7 @@ returns-in-Err-clause-unwritten c = (
   subst (λ r. IfErr r (IsFirstFault c.args.«module».now c.args.info.now)) c.in-Err.is c.write.ensures.fault,
   refl,
   subst (λ r. IfErr r (λ _. c.write.new.info ≡ c.args.info.now)) c.in-Err.is c.write.ensures.untouched,
+  sym c.write.ensures.accepted ∙ ap is_ok c.in-Err.is,
 )
 
 pub returns-in_err-opening-clause-unwritten : goal.returns-in_err-opening-clause-unwritten

@@ -18,8 +18,8 @@ returns-in-Err c =
     let is = subst
     (λ r. IfErr r (IsUnwritten writer longest_text given m
     c.args.shader.now.info info)) c.in-Err.is c.write_within.ensures.unwritten in
-    λ json was_read. not_written json c.args.flags writer c.args.shader.now.holder given m c.args.shader.now.info info _ _ _
-    (at_most_seven c.args.flags c.requires.known) c.writer_flags.ensures was_read
+    λ json was_given. not_written json c.args.flags writer c.args.shader.now.holder given m c.args.shader.now.info info _ _ _
+    (at_most_seven c.args.flags c.requires.known) c.writer_flags.ensures was_given
     (λ _. as_given c.args.flags given c.requires.known) is c.not_written.ensures
 
 pub returns-in-Ok : goal.returns-in-Ok
@@ -40,7 +40,7 @@ returns-in-Ok c =
     let named = subst (λ r. OnOk r (OpensWithNames writer given)) c.in-Ok.is c.write_within.ensures.named in
     let within = subst (λ r. IfOk r (λ w. length (string_bytes w.sink) ≤ longest_text)) c.in-Ok.is
     c.write_within.ensures.within in
-    λ json was_read. wrote json c.args.flags writer c.args.shader.now.holder given m read info (string_bytes w.sink)
-    (at_most_seven c.args.flags c.requires.known) c.writer_flags.ensures was_read
+    λ json was_given. wrote json c.args.flags writer c.args.shader.now.holder given m read info (string_bytes w.sink)
+    (at_most_seven c.args.flags c.requires.known) c.writer_flags.ensures was_given
     (as_given c.args.flags given c.requires.known) accepted ready.raised named w.answer w.refusal _ _ ready.counted
     (not_decimal c.args.flags c.requires.known) answers.faithful answers.text answers.refusal within c.told_written.ensures

@@ -23,8 +23,8 @@ returns-in-Err c =
     c.args.shader.now.info info)) c.in-Err.is c.write_decimal_within.ensures.unwritten in
     let too_long = subst (λ r. IfErr r (λ e. e ≡ unwritten.TooLong → IsDecimalModule (asking_standard given) m)) c.in-Err.is
     c.write_decimal_within.ensures.too_long in
-    λ json was_read. not_written json c.args.flags writer c.args.shader.now.holder given m c.args.shader.now.info info _ _ _
-    c.requires.known c.writer_flags.ensures was_read
+    λ json was_given. not_written json c.args.flags writer c.args.shader.now.holder given m c.args.shader.now.info info _ _ _
+    c.requires.known c.writer_flags.ensures was_given
     (λ e. with_decimal_floats c.args.flags given m c.requires.decimal (too_long e)) is c.not_written.ensures
 
 pub returns-in-Ok : goal.returns-in-Ok
@@ -49,8 +49,8 @@ returns-in-Ok c =
     let named = subst (λ r. OnOk r (OpensWithNames writer given)) c.in-Ok.is c.write_decimal_within.ensures.named in
     let within = subst (λ r. IfOk r (λ w. length (string_bytes w.sink) ≤ longest_text)) c.in-Ok.is
     c.write_decimal_within.ensures.within in
-    λ json was_read. wrote json c.args.flags writer c.args.shader.now.holder given m read info (string_bytes w.sink)
-    c.requires.known c.writer_flags.ensures was_read
+    λ json was_given. wrote json c.args.flags writer c.args.shader.now.holder given m read info (string_bytes w.sink)
+    c.requires.known c.writer_flags.ensures was_given
     (with_decimal_floats c.args.flags given m c.requires.decimal decimal)
     accepted ready.raised named w.answer w.refusal _ _ ready.counted (λ _. complete) answers.faithful answers.text answers.refusal within
     c.told_written.ensures
